@@ -1,0 +1,21 @@
+// A run of bits of a word, read and replaced.
+ghost use mathlib.Core.Path.{_≡_};
+ghost use Prim.Native.Nat.{_+_, _≤_, _<_, _^_};
+ghost use Rattle.header.specs.Fields.{field, patched};
+
+// The w bits of n from bit p on.
+pub fn get(n: u64, p: usize, w: usize) -> u64
+    requires { ⌜ (p < 64) × (w < 64) ⌝ }
+    ensures { λ r. ⌜ r ≡ field n p w ⌝ }
+{
+    (n >> p) % (1 << w)
+}
+
+// n with d in place of its w bits from bit p on.
+pub fn replace(n: u64, p: usize, w: usize, d: u64) -> u64
+    requires { ⌜ (p < 64) × (w < 64) × (p + w ≤ 64) × (d < 2 ^ w) ⌝ }
+    ensures { λ r. ⌜ r ≡ patched n p w d ⌝ }
+{
+    let old = get(n, p, w) << p;
+    n - old + (d << p)
+}

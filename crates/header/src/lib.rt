@@ -1,0 +1,109 @@
+// The header of a leaf as a value: words 0 and 1. Bit s says that slot s is occupied, bit 14 is the lock, bit 15 is alt, and from
+// bit 16 on stand the fingerprints of the 14 slots.
+mod bits;
+
+use crate::bits::get;
+use crate::bits::replace;
+ghost use mathlib.Core.Path.{_≡_};
+ghost use Prim.Native.Nat.{_+_, _≤_, _<_};
+ghost use lib.ListN.{length};
+ghost use Rattle.header.specs.Header.{headAt, bitsOf, isOccupied, fingerprintIn, isLocked, altIn};
+ghost use Rattle.header.specs.Header.{marked, cleared, flipped, fingerprintOf};
+
+pub struct Header {
+    pub low: u64,
+    pub high: u64,
+}
+
+impl Header {
+    pub fn read(bytes: &[u8], place: usize) -> Header
+        requires { ⌜ place + 16 ≤ length (now bytes) ⌝ }
+        ensures { λ r. ⌜ bitsOf r ≡ headAt (now (bytes .entry)) place ⌝ }
+    {
+        Header {
+            low: words::word_at(bytes, place),
+            high: words::word_at(bytes, place + 8),
+        }
+    }
+
+    pub fn occupied(self, s: usize) -> bool
+        requires { ⌜ s < 14 ⌝ }
+        ensures { λ r. ⌜ r ≡ isOccupied (bitsOf self) s ⌝ }
+    {
+        get(self.low, s, 1) == 1
+    }
+
+    pub fn fingerprint(self, s: usize) -> u8
+        requires { ⌜ s < 14 ⌝ }
+        ensures { λ r. ⌜ r ≡ fingerprintIn (bitsOf self) s ⌝ }
+    {
+        if s < 6 {
+            (get(self.low, 16 + 8 * s, 8) % 256) as u8
+        } else {
+            (get(self.high, 8 * s - 48, 8) % 256) as u8
+        }
+    }
+
+    pub fn locked(self) -> bool
+        ensures { λ r. ⌜ r ≡ isLocked (bitsOf self) ⌝ }
+    {
+        get(self.low, 14, 1) == 1
+    }
+
+    // Which sibling is active, 0 or 1.
+    pub fn alt(self) -> u64
+        ensures { λ r. ⌜ r ≡ altIn (bitsOf self) ⌝ }
+    {
+        get(self.low, 15, 1)
+    }
+
+    pub fn mark(self, s: usize, fp: u8) -> Header
+        requires { ⌜ s < 14 ⌝ }
+        ensures { λ r. ⌜ bitsOf r ≡ marked (bitsOf self) s fp ⌝ }
+    {
+        let bits = replace(self.low, s, 1, 1);
+        if s < 6 {
+            Header {
+                low: replace(bits, 16 + 8 * s, 8, fp as u64),
+                high: self.high,
+            }
+        } else {
+            Header {
+                low: bits,
+                high: replace(self.high, 8 * s - 48, 8, fp as u64),
+            }
+        }
+    }
+
+    pub fn clear(self, s: usize) -> Header
+        requires { ⌜ s < 14 ⌝ }
+        ensures { λ r. ⌜ bitsOf r ≡ cleared (bitsOf self) s ⌝ }
+    {
+        Header {
+            low: replace(self.low, s, 1, 0),
+            high: self.high,
+        }
+    }
+
+    pub fn flip_alt(self) -> Header
+        ensures { λ r. ⌜ bitsOf r ≡ flipped (bitsOf self) ⌝ }
+    {
+        Header {
+            low: replace(self.low, 15, 1, 1 - get(self.low, 15, 1)),
+            high: self.high,
+        }
+    }
+}
+
+// The fingerprint of a key: the exclusive-or of its eight bytes.
+pub fn fingerprint_of(key: u64) -> u8
+    ensures { λ r. ⌜ r ≡ fingerprintOf key ⌝ }
+{
+    let mut rest = key;
+    let mut mix: u8 = 0;
+    for _ in 0..8usize {
+        mix = mix ^ ((rest % 256) as u8);
+        rest = rest / 256;
+    }
+    mix
+}
