@@ -7,7 +7,7 @@ use Prim.Native.Nat.{ℕ, zero, suc, _+_, _-_, _*_, _/_, _%_, _^_, _≤_, _<_}
 use native.Mathlib.Nat.{zero-add, add-suc, le-of-suc-le-suc, not-suc-le-zero, pow-suc, div-div-eq-div-mul, div-add-mod', div-one, div-eq-of-lt}
 use native.Mathlib.Decide.{ℕ-discrete, decLt}
 use native.Mathlib.Omega.{arith}
-use lib.ListN.{length, getD, set, take, drop, length-set}
+use lib.ListN.{length, getD, set, take, drop, length-set, List·getD-eq-default}
 use lib.Seq.{ext-getD, getD-set-same, getD-set-other, getD-take, getD-drop}
 use Rattle.words.specs.Words.{pairAt, fourAt, wordAt, stores, byteOf, bytesOf, storeAt, reads}
 use Rattle.words.specs.Update.{upd, upd-same, upd-other}
@@ -218,3 +218,11 @@ words-determine l m bl bm same whole h = ext-getD 0 l m same (λ i lt. at i lt)
         ap (λ (k : ℕ). getD l k 0) (sym e) ∙ sym (byte-word l (8 * (i / 8)) (i % 8) bl (omega arith))
         ∙ ap (λ (w : ℕ). byteOf w (i % 8)) (h (i / 8) (omega arith))
         ∙ byte-word m (8 * (i / 8)) (i % 8) bm (omega arith) ∙ ap (λ (k : ℕ). getD m k 0) e
+
+-- there is no word past the end
+pub reads-past : (l : List ℕ) (i : ℕ) → length l ≤ 8 * i → reads l i ≡ 0
+unfolding reads wordAt
+reads-past l i h = word-same l [] (8 * i) 0 (λ k lt. past l (8 * i + k) (omega arith) ∙ sym (past [] (0 + k) (omega arith)))
+  where
+    past : (m : List ℕ) (j : ℕ) → length m ≤ j → getD m j 0 ≡ 0
+    past m j b = List·getD-eq-default m 0 {n = j} b
