@@ -1,0 +1,3 @@
+// A leaf of 256 bytes: where its parts stand, and the search in it.
+pub mod place;
+pub mod search;
