@@ -3,4 +3,5 @@
 pub mod Leaf
 pub mod LeafLaws
 pub mod Search
+pub mod SearchLaws
 pub mod SearchSteps
