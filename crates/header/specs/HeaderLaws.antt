@@ -1,16 +1,24 @@
 -- What a client knows of a header: what marking, clearing and flipping change, and that they leave every other bit and fingerprint,
--- the lock and alt; that a header has two words; and that a fingerprint is a byte.
+-- the lock and alt; that a header has two words; that a fingerprint is a byte, and which byte of the leaf it is.
 use mathlib.Core.Path.{_≡_, refl, sym, ap, _∙_}
 use mathlib.Core.Bool.{Bool, true, false}
 use mathlib.Core.List.{List}
 use mathlib.Core.Logic.{_≢_}
 use Prim.Native.Nat.{ℕ, zero, suc, _+_, _-_, _*_, _/_, _%_, _^_, _≤_, _<_}
+use native.Mathlib.Decide.{decLt}
+use native.Mathlib.Nat.{pow-suc}
 use native.Mathlib.Omega.{arith}
 use lib.Bits.{bitXor, xor-lt}
 use lib.Dec.{eqb, lit<}
+use lib.ListN.{getD}
+use lib.Pow.{pow-add}
+use Rattle.words.specs.Words.{wordAt, byteOf}
+use Rattle.words.specs.WordLaws.{Bytes, byte-word, word-small}
 use Rattle.header.specs.Fields.{field, patched}
 use Rattle.header.specs.FieldLaws.{field-lt, field-patched, field-patched-above, field-patched-below, field-apart}
-use Rattle.header.specs.Header.{whole, isOccupied, isLocked, altIn, fingerprintIn, marked, cleared, flipped, xorOfBytes, fingerprintOf}
+use Rattle.header.specs.Header.{whole, headAt, isOccupied, isLocked, altIn, fingerprintIn}
+use Rattle.header.specs.Header.{marked, cleared, flipped, xorOfBytes, fingerprintOf}
+use Rattle.header.specs.HeaderCode.{field-low, field-high}
 
 -- ---- marked
 
@@ -124,3 +132,27 @@ bytes-lt (suc n) k = xor-lt 8 (k % 256) (xorOfBytes n (k / 256)) (omega arith) (
 pub fingerprint-lt : (k : ℕ) → fingerprintOf k < 256
 unfolding fingerprintOf
 fingerprint-lt k = bytes-lt 8 k
+
+-- ---- "bytes 2 + s: fingerprint of slot s"
+
+byte-power : (k : ℕ) → 2 ^ (8 * k) ≡ 256 ^ k
+byte-power zero = refl
+byte-power (suc k) =
+    let e : 8 * suc k ≡ 8 * k + 8 = omega arith in rw (e, pow-add 2 (8 * k) 8, pow-suc 256 k, byte-power k)
+
+byte-field : (n k : ℕ) → field n (8 * k) 8 ≡ byteOf n k
+unfolding field
+byte-field n k = rw (byte-power k)
+
+pub fingerprint-byte : (l : List ℕ) (p s : ℕ) → Bytes l → s < 14 → fingerprintIn (headAt l p) s ≡ getD l (p + (2 + s)) 0
+unfolding headAt fingerprintIn
+fingerprint-byte l p s h b =
+    elim (decLt s 6) [
+      | yes lt ↦ let e : 16 + 8 * s ≡ 8 * (2 + s) = omega arith in
+          field-low (wordAt l p) (wordAt l (p + 8)) (16 + 8 * s) 8 (word-small l p h) (omega arith)
+          ∙ rw (e, byte-field (wordAt l p) (2 + s)) (byte-word l p (2 + s) h (omega arith))
+      | no ge ↦ let e : 16 + 8 * s ≡ 64 + 8 * (s - 6) = omega arith in
+          let x : p + 8 + (s - 6) ≡ p + (2 + s) = omega arith in
+          rw (e, field-high (wordAt l p) (wordAt l (p + 8)) (8 * (s - 6)) 8 (word-small l p h), byte-field (wordAt l (p + 8)) (s - 6))
+          (byte-word l (p + 8) (s - 6) h (omega arith) ∙ rw x)
+    ]

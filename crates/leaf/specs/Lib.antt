@@ -5,3 +5,6 @@ pub mod LeafLaws
 pub mod Search
 pub mod SearchLaws
 pub mod SearchSteps
+pub mod Tally
+pub mod TallySteps
+pub mod TallyLaws

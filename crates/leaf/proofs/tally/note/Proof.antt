@@ -1,0 +1,21 @@
+use borrow.Author.Needs.{needs}
+use Rattle.leaf.specs.TallySteps.{noted-is}
+use Rattle.leaf.proofs.tally.note.Statement.{statement}
+use Rattle.leaf.proofs.tally.note.Tie as tie
+
+returns : tie.Need-returns
+returns c =
+    let f = c .before .before .before .before .before .before .before .before .before in
+    let a = f .before .args in
+    noted-is (a .last) (a .sought) (a .print) (a .key) (a .hit) (a .t) _ _ _ _ _ (f .fingerprint-of .ensures)
+    (c .before .before .before .before .before .before .before .one-if .ensures .0)
+    (c .before .before .before .before .before .one-if2 .ensures .0)
+    (c .before .before .before .one-if3 .ensures .0)
+    (c .before .larger .ensures)
+
+pub note-spec : {M : Type 1} → statement M
+note-spec =
+    tie.close
+    (tie.spec
+    (λ c κs. search needs) (λ c. search needs) (λ c κs. search needs) (λ c. search needs) (λ c κs. search needs)
+    (λ c. search needs) (λ c κs. search needs) (λ c. search needs) (λ c κs. search needs) (λ c. search needs) returns)

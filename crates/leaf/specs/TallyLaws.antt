@@ -1,0 +1,114 @@
+-- What a caller knows of a tally: no wrong fingerprint and no twin is a right leaf, and what the counts of keys say of each key.
+use mathlib.Core.Path.{_≡_, refl, sym, ap, _∙_}
+use mathlib.Core.Bool.{Bool, true, false, cond, not}
+use mathlib.Core.Logic.{_⊎_, inl, inr}
+use Prim.Native.Nat.{ℕ, zero, suc, _+_, _≤_, _<_, max}
+use native.Mathlib.Decide.{ℕ-discrete, decLt}
+use native.Mathlib.Omega.{arith}
+use borrow.Author.Tests.{eq-eqb, eqb-true, leb-true, leb-false, lt-leb, le-leb, not-false}
+use lib.Dec.{leb, eqb}
+use Rattle.words.specs.Bools.{both, both-true, by-test, differ, not-so}
+use Rattle.header.specs.Header.{fingerprintOf}
+use Rattle.leaf.specs.Leaf.{Leaf, Taken, Right}
+use Rattle.leaf.specs.Search.{countTo}
+use Rattle.leaf.specs.SearchLaws.{count-none, count-zero, count-some}
+use Rattle.leaf.specs.Tally.{wrongAt, atMost, mostTo, someTo, shares, twinAt, twins}
+use Rattle.leaf.specs.TallySteps.{some-none, none-some, some-yes}
+
+module _ (L : Leaf) (inside : (s : ℕ) → Taken L s → s < L .size) where
+  prints : countTo (wrongAt L) (L .size) ≡ 0 → (s : ℕ) → Taken L s → L .fp s ≡ fingerprintOf (L .key s)
+  unfolding wrongAt
+  prints e s o =
+      eqb-true (L .fp s) (fingerprintOf (L .key s))
+      (not-false (eqb (L .fp s) (fingerprintOf (L .key s))) (sym (rw o) ∙ count-none (wrongAt L) (L .size) e s (inside s o)))
+
+  -- two occupied slots with one key, t the lower
+  lower : ((s : ℕ) → Taken L s → L .fp s ≡ fingerprintOf (L .key s)) → twins L ≡ false → (s t : ℕ) → t < s → Taken L s → Taken L t → L .key t ≡ L .key s → ⊥
+  unfolding twins twinAt shares
+  lower p e s t b o q k =
+      let f : L .fp t ≡ L .fp s = p t q ∙ ap fingerprintOf k ∙ sym (p s o) in
+      let h : shares L s t ≡ true = rw (q, eq-eqb (L .fp t) (L .fp s) f, eq-eqb (L .key t) (L .key s) k) in
+      let w : twinAt L s ≡ true = rw (o, some-yes (shares L s) s t b h) in
+      differ (sym w ∙ none-some (twinAt L) (L .size) e s (inside s o))
+
+  pub tally-right : countTo (wrongAt L) (L .size) ≡ 0 → twins L ≡ false → Right L
+  tally-right e d = record {
+    inside = inside;
+    prints = prints e;
+    differ = λ s t o q k. elim (ℕ-discrete s t) [
+      | yes x ↦ x
+      | no x ↦ elim (decLt t s) [
+        | yes b ↦ absurd (lower (prints e) d s t b o q (sym k))
+        | no b ↦ absurd (lower (prints e) d t s (omega arith) q o k)
+      ]
+    ];
+  }
+
+module _ (L : Leaf) (r : Right L) where
+  pub right-prints : countTo (wrongAt L) (L .size) ≡ 0
+  unfolding wrongAt
+  right-prints = count-zero (wrongAt L) (L .size) (λ s b. by-test (λ o. L .occ s ≡ o → both o (not (eqb (L .fp s) (fingerprintOf (L .key s)))) ≡ false) (L .occ s)
+      (λ x o. ap not (eq-eqb (L .fp s) (fingerprintOf (L .key s)) (r .prints s o)))
+      (λ x o. refl)
+      refl)
+
+  pub right-twins : twins L ≡ false
+  unfolding twins twinAt shares
+  right-twins = some-none (twinAt L) (L .size) (λ s b. not-so (twinAt L s) (λ e.
+      let p = both-true (L .occ s) (someTo (shares L s) s) e in
+      differ (sym (p .1) ∙ some-none (shares L s) s (λ t c. not-so (shares L s t) (λ f.
+      let q = both-true (L .occ t) (both (eqb (L .fp t) (L .fp s)) (eqb (L .key t) (L .key s))) f in
+      let k = both-true (eqb (L .fp t) (L .fp s)) (eqb (L .key t) (L .key s)) (q .1) in
+      let x : t ≡ s = r .differ t s (q .0) (p .0) (eqb-true (L .key t) (L .key s) (k .1)) in omega arith)))))
+
+-- ---- keys at most x, and the largest key
+
+module _ (L : Leaf) (x n : ℕ) where
+  pub none-at-most : countTo (atMost L x) n ≡ 0 → (s : ℕ) → s < n → Taken L s → x < L .key s
+  unfolding atMost
+  none-at-most e s b o = leb-false (L .key s) x (sym (rw o) ∙ count-none (atMost L x) n e s b)
+
+  pub all-above : ((s : ℕ) → s < n → Taken L s → x < L .key s) → countTo (atMost L x) n ≡ 0
+  unfolding atMost
+  all-above h = count-zero (atMost L x) n (λ s b. by-test (λ o. L .occ s ≡ o → both o (leb (L .key s) x) ≡ false) (L .occ s)
+      (λ y o. lt-leb (L .key s) x (h s b o))
+      (λ y o. refl)
+      refl)
+
+  pub some-at-most : 0 < countTo (atMost L x) n → (s : ℕ) × (s < n) × Taken L s × (L .key s ≤ x)
+  unfolding atMost
+  some-at-most h =
+      let r = count-some (atMost L x) n h in
+      let p = both-true (L .occ (r .0)) (leb (L .key (r .0)) x) (r .2) in
+      (r .0, r .1, p .0, leb-true (L .key (r .0)) x (p .1))
+
+module _ (L : Leaf) where
+  pub most-above : (n s : ℕ) → s < n → Taken L s → L .key s ≤ mostTo L n
+  unfolding mostTo
+  most-above zero s b o = absurd (omega arith)
+  most-above (suc n) s b o = by-test (λ t. L .occ n ≡ t → L .key s ≤ cond t (max (mostTo L n) (L .key n)) (mostTo L n)) (L .occ n)
+      (λ x q. elim (ℕ-discrete s n) [ yes e ↦ rw e (omega arith) | no ne ↦ omega (arith, most-above n s (omega arith) o) ])
+      (λ x q. elim (ℕ-discrete s n) [ yes e ↦ differ (sym o ∙ ap (L .occ) e ∙ q) | no ne ↦ most-above n s (omega arith) o ])
+      refl
+
+  most-or : (n : ℕ) → (mostTo L n ≡ 0) ⊎ ((t : ℕ) × (t < n) × Taken L t × (L .key t ≡ mostTo L n))
+  unfolding mostTo
+  most-or zero = inl refl
+  most-or (suc n) = by-test
+      (λ x. L .occ n ≡ x
+      → (cond x (max (mostTo L n) (L .key n)) (mostTo L n) ≡ 0)
+      ⊎ ((t : ℕ) × (t < suc n) × Taken L t × (L .key t ≡ cond x (max (mostTo L n) (L .key n)) (mostTo L n))))
+      (L .occ n)
+      (λ x o. elim (decLt (L .key n) (mostTo L n)) [
+        | yes b ↦ elim (most-or n) [
+          | inl z ↦ absurd (omega arith)
+          | inr f ↦ inr (f .0, omega (arith, f .1), f .2, omega (arith, f .3))
+        ]
+        | no b ↦ inr (n, omega arith, o, omega arith)
+      ])
+      (λ x o. elim (most-or n) [ inl z ↦ inl z | inr f ↦ inr (f .0, omega (arith, f .1), f .2, f .3) ])
+      refl
+
+  -- it is the key of an occupied slot, where there is one
+  pub most-is : (n s : ℕ) → s < n → Taken L s → (t : ℕ) × (t < n) × Taken L t × (L .key t ≡ mostTo L n)
+  most-is n s b o = elim (most-or n) [ inl z ↦ (s, b, o, omega (arith, most-above n s b o)) | inr f ↦ f ]

@@ -1,0 +1,217 @@
+-- One turn of the pass over the slots, and of the search for twins.
+use mathlib.Core.Path.{_≡_, refl, sym, ap, subst, _∙_}
+use mathlib.Core.Bool.{Bool, true, false, cond, not}
+use mathlib.Core.List.{List}
+use mathlib.Core.Logic.{_≢_}
+use Prim.Native.Nat.{ℕ, zero, suc, _+_, _≤_, _<_, max}
+use native.Mathlib.Decide.{ℕ-discrete}
+use native.Mathlib.Numerals.{add-one}
+use native.Mathlib.Omega.{arith}
+use borrow.Author.Tests.{eq-eqb, ne-eqb, eqb-true}
+use lib.Dec.{leb, eqb}
+use lib.ListN.{length, getD, set}
+use lib.Seq.{getD-set-same, getD-set-other}
+use Rattle.words.specs.Bools.{both, both-true, by-test, differ, not-so}
+use Rattle.header.specs.Header.{fingerprintOf}
+use Rattle.leaf.specs.Leaf.{Leaf, Taken, leafIn}
+use Rattle.leaf.specs.Search.{countTo, count}
+use Rattle.leaf.specs.SearchLaws.{count-most}
+use Rattle.leaf.specs.Tally.{wrongAt, atMost, mostTo, someTo, shares, twinAt, twins, Tells}
+use Rattle.leaf.specs.declared.tally.Tally.{Tally}
+
+-- ---- some of the first n passes a test
+
+module _ (f : ℕ → Bool) where
+  pub some-none : (n : ℕ) → ((t : ℕ) → t < n → f t ≡ false) → someTo f n ≡ false
+  unfolding someTo
+  some-none zero h = refl
+  some-none (suc n) h = rw (h n (omega arith)) (some-none n (λ t b. h t (omega arith)))
+
+  pub some-next : (n : ℕ) → someTo f n ≡ false → f n ≡ false → someTo f (suc n) ≡ false
+  unfolding someTo
+  some-next n e g = rw g e
+
+  pub none-some : (n : ℕ) → someTo f n ≡ false → (t : ℕ) → t < n → f t ≡ false
+  unfolding someTo
+  none-some zero e t b = absurd (omega arith)
+  none-some (suc n) e t b =
+      by-test (λ x. f n ≡ x → cond x true (someTo f n) ≡ false → f t ≡ false) (f n)
+      (λ x q z. differ z)
+      (λ x q z. elim (ℕ-discrete t n) [ yes p ↦ rw p q | no ne ↦ none-some n z t (omega arith) ])
+      refl
+      e
+
+  pub some-yes : (n t : ℕ) → t < n → f t ≡ true → someTo f n ≡ true
+  some-yes n t b e =
+      by-test (λ x. someTo f n ≡ x → someTo f n ≡ true) (someTo f n) (λ x q. q) (λ x q. differ (sym e ∙ none-some n q t b)) refl
+
+-- ---- the pass
+
+-- the tally with one more occupied slot, of that fingerprint and key
+abbrev pub noted : (last sought print key hit : ℕ) → Tally → Tally
+noted last sought print key hit t = record {
+  entries = t .entries + 1;
+  wrong = t .wrong + cond (not (eqb print (fingerprintOf key))) 1 0;
+  low = t .low + cond (leb key last) 1 0;
+  reached = t .reached + cond (leb key sought) 1 0;
+  most = max (t .most) key;
+  hits = t .hits + hit;
+}
+
+pub noted-is : (last sought print key hit : ℕ) (t : Tally) (own wrong low reached most : ℕ) → own ≡ fingerprintOf key
+    → wrong ≡ cond (not (eqb print own)) 1 0 → low ≡ cond (leb key last) 1 0 → reached ≡ cond (leb key sought) 1 0 → most ≡ max (t .most) key
+    → _≡_ {A = Tally} (record {
+      entries = t .entries + 1;
+      wrong = t .wrong + wrong;
+      low = t .low + low;
+      reached = t .reached + reached;
+      most = most;
+      hits = t .hits + hit;
+    }) (noted last sought print key hit t)
+noted-is last sought print key hit t own wrong low reached most eo ew el er em = rw (ew, el, er, em, eo)
+
+-- its counts are those of so few slots that they can grow
+pub record Few (t : Tally) : Type 0 where
+  pub entries : t .entries < 14
+  pub wrong : t .wrong < 14
+  pub low : t .low < 14
+  pub reached : t .reached < 14
+  pub hits : t .hits < 14
+
+-- what the tally tells of the first n slots
+pub record TellsTo (L : Leaf) (last sought n : ℕ) (t : Tally) : Type 0 where
+  pub entries : t .entries ≡ countTo (L .occ) n
+  pub wrong : t .wrong ≡ countTo (wrongAt L) n
+  pub low : t .low ≡ countTo (atMost L last) n
+  pub reached : t .reached ≡ countTo (atMost L sought) n
+  pub most : t .most ≡ mostTo L n
+  pub few : t .hits ≤ n
+  pub alone : t .hits ≡ 0 → someTo (twinAt L) n ≡ false
+
+-- the fingerprints of the first n slots bear the leaf's number
+abbrev pub Stamped : Leaf → ℕ → ℕ → List ℕ → Type 0
+Stamped L number n stamps = (t : ℕ) → t < n → Taken L t → getD stamps (L .fp t) 0 ≡ number
+
+module _ (L : Leaf) (last sought : ℕ) where
+  pub tells-none : TellsTo L last sought 0 (record { entries = 0; wrong = 0; low = 0; reached = 0; most = 0; hits = 0 })
+  unfolding countTo mostTo someTo
+  tells-none = record { entries = refl; wrong = refl; low = refl; reached = refl; most = refl; few = omega arith; alone = λ z. refl }
+
+  pub tells-few : (s : ℕ) (t : Tally) → s < 14 → TellsTo L last sought s t → Few t
+  tells-few s t b h = record {
+    entries = omega (arith, h .entries, count-most (L .occ) s);
+    wrong = omega (arith, h .wrong, count-most (wrongAt L) s);
+    low = omega (arith, h .low, count-most (atMost L last) s);
+    reached = omega (arith, h .reached, count-most (atMost L sought) s);
+    hits = omega (arith, h .few);
+  }
+
+  -- a slot whose fingerprint bore no stamp of this leaf has no twin below
+  unstamped : (s number : ℕ) (stamps : List ℕ) → Stamped L number s stamps → getD stamps (L .fp s) 0 ≢ number → someTo (shares L s) s ≡ false
+  unfolding shares
+  unstamped s number stamps h ne = some-none (shares L s) s (λ t b. not-so (shares L s t) (λ e.
+      let r = both-true (L .occ t) (both (eqb (L .fp t) (L .fp s)) (eqb (L .key t) (L .key s))) e in
+      let q = both-true (eqb (L .fp t) (L .fp s)) (eqb (L .key t) (L .key s)) (r .1) in
+      ne (ap (λ (p : ℕ). getD stamps p 0) (sym (eqb-true (L .fp t) (L .fp s) (q .0))) ∙ h t b (r .0))))
+
+  module _ (s number : ℕ) (stamps : List ℕ) (t : Tally) (so-far : TellsTo L last sought s t) where
+    -- an occupied slot is noted ..
+    pub tells-taken : (print key hit : ℕ) (r : Tally) → Stamped L number s stamps → Taken L s → print ≡ L .fp s → key ≡ L .key s
+        → hit ≡ cond (eqb (getD stamps print 0) number) 1 0 → r ≡ noted last sought print key hit t → TellsTo L last sought (s + 1) r
+    unfolding countTo wrongAt atMost mostTo twinAt
+    tells-taken print key hit r h o ep ek eh er = rw (er, ek, ep, add-one s) (record {
+      entries = rw (so-far .entries, o);
+      wrong = rw (so-far .wrong, o);
+      low = rw (so-far .low, o);
+      reached = rw (so-far .reached, o);
+      most = rw (so-far .most, o);
+      few = omega (arith, so-far .few, hit-most);
+      alone = λ z. some-next (twinAt L) s (so-far .alone (omega arith)) (lone (omega arith));
+    })
+      where
+        hit-most : hit ≤ 1
+        hit-most = rw eh (by-test (λ b. cond b 1 0 ≤ 1) (eqb (getD stamps print 0) number) (λ e. omega arith) (λ e. omega arith))
+
+        lone : hit ≡ 0 → twinAt L s ≡ false
+        lone z = rw o (unstamped s number stamps h (λ e.
+            let one : hit ≡ 1 = eh ∙ rw (eq-eqb (getD stamps print 0) number (ap (λ (p : ℕ). getD stamps p 0) ep ∙ e)) in
+            omega arith))
+
+    -- .. and a vacant one passed over
+    pub tells-vacant : L .occ s ≡ false → TellsTo L last sought (s + 1) t
+    unfolding countTo wrongAt atMost mostTo twinAt
+    tells-vacant o = rw (add-one s) (record {
+      entries = rw o (so-far .entries ∙ plus-0 (countTo (L .occ) s));
+      wrong = rw o (so-far .wrong ∙ plus-0 (countTo (wrongAt L) s));
+      low = rw o (so-far .low ∙ plus-0 (countTo (atMost L last) s));
+      reached = rw o (so-far .reached ∙ plus-0 (countTo (atMost L sought) s));
+      most = rw o (so-far .most);
+      few = omega (arith, so-far .few);
+      alone = λ z. some-next (twinAt L) s (so-far .alone z) (rw o refl);
+    })
+      where
+        plus-0 : (n : ℕ) → n ≡ n + 0
+        plus-0 n = omega arith
+
+pub stamped-taken : (L : Leaf) (number s : ℕ) (stamps r : List ℕ) (print : ℕ) → Stamped L number s stamps → print ≡ L .fp s
+    → print < length stamps → r ≡ set stamps print number → Stamped L number (s + 1) r
+stamped-taken L number s stamps r print h ep b er t c o = rw er (elim (ℕ-discrete (L .fp t) print) [
+  | yes e ↦ rw e (getD-set-same stamps print number 0 b)
+  | no ne ↦ getD-set-other stamps print (L .fp t) number 0 ne ∙ elim (ℕ-discrete t s) [
+    | yes q ↦ absurd (ne (ap (L .fp) q ∙ sym ep))
+    | no q ↦ h t (omega arith) o
+  ]
+])
+
+pub stamped-vacant : (L : Leaf) (number s : ℕ) (stamps : List ℕ) → Stamped L number s stamps → L .occ s ≡ false → Stamped L number (s + 1) stamps
+stamped-vacant L number s stamps h v t c o =
+    elim (ℕ-discrete t s) [ yes q ↦ differ (sym o ∙ ap (L .occ) q ∙ v) | no q ↦ h t (omega arith) o ]
+
+-- the whole pass, over the 14 slots
+pub tells-whole : (l : List ℕ) (last sought s : ℕ) (t : Tally) → TellsTo (leafIn l) last sought s t → s ≡ 14 → Tells (leafIn l) last sought t
+unfolding leafIn count twins
+tells-whole l last sought s t h e = let w : TellsTo (leafIn l) last sought 14 t = subst (λ (n : ℕ). TellsTo (leafIn l) last sought n t) e h in record {
+  entries = w .entries;
+  wrong = w .wrong;
+  low = w .low;
+  reached = w .reached;
+  most = w .most;
+  alone = w .alone;
+}
+
+-- ---- the search for twins
+
+module _ (L : Leaf) (s t : ℕ) where
+  pub shares-key : L .occ t ≡ true → L .fp t ≡ L .fp s → eqb (L .key t) (L .key s) ≡ shares L s t
+  unfolding shares
+  shares-key o e = rw (o, eq-eqb (L .fp t) (L .fp s) e)
+
+  pub shares-other : L .occ t ≡ true → (L .fp t ≡ L .fp s → ⊥) → false ≡ shares L s t
+  unfolding shares
+  shares-other o ne = rw (o, ne-eqb (L .fp t) (L .fp s) ne)
+
+  pub shares-vacant : L .occ t ≡ false → false ≡ shares L s t
+  unfolding shares
+  shares-vacant o = rw o
+
+module _ (L : Leaf) (s : ℕ) where
+  pub twin-found : (t : ℕ) → L .occ s ≡ true → t < s → shares L s t ≡ true → true ≡ twinAt L s
+  unfolding twinAt
+  twin-found t o b e = rw (o, some-yes (shares L s) s t b e)
+
+  pub twin-none : L .occ s ≡ true → someTo (shares L s) s ≡ false → false ≡ twinAt L s
+  unfolding twinAt
+  twin-none o e = rw (o, e)
+
+  pub twin-vacant : L .occ s ≡ false → false ≡ twinAt L s
+  unfolding twinAt
+  twin-vacant o = rw o
+
+module _ (l : List ℕ) (s : ℕ) where
+  pub twins-found : s < 14 → twinAt (leafIn l) s ≡ true → true ≡ twins (leafIn l)
+  unfolding twins leafIn
+  twins-found b e = sym (some-yes (twinAt (leafIn l)) 14 s b e)
+
+  pub twins-none : s ≡ 14 → someTo (twinAt (leafIn l)) s ≡ false → false ≡ twins (leafIn l)
+  unfolding twins leafIn
+  twins-none q e = sym (ap (someTo (twinAt (leafIn l))) (sym q) ∙ e)

@@ -1,0 +1,172 @@
+// One pass over a leaf's slots tells all that a walk of the chain asks of it. Per slot only numbers grow, and keys are compared
+// with each other only where a fingerprint comes twice: equal keys have equal fingerprints.
+use crate::place::Leaf;
+use crate::search::key_at;
+use header::Header;
+use header::fingerprint_of;
+ghost use mathlib.Core.Path.{_≡_};
+ghost use mathlib.Core.Bool.{cond};
+ghost use Prim.Native.Nat.{_+_, _≤_, _<_, max};
+ghost use lib.Dec.{leb, eqb};
+ghost use lib.ListN.{length, getD, set};
+ghost use Rattle.header.specs.Header.{headAt, bitsOf, fingerprintOf};
+ghost use Rattle.leaf.specs.Leaf.{leafIn};
+ghost use Rattle.leaf.specs.Tally.{Tells, shares, twinAt, twins};
+ghost use Rattle.leaf.specs.TallySteps.{noted, Few, TellsTo, Stamped};
+
+// How many slots are occupied, have a wrong fingerprint, a key at most the last of the earlier leaves, a key at most the one
+// sought; the largest key; how often a fingerprint had come before.
+pub struct Tally {
+    pub entries: u64,
+    pub wrong: u64,
+    pub low: u64,
+    pub reached: u64,
+    pub most: u64,
+    pub hits: u64,
+}
+
+fn one_if(b: bool) -> u64
+    ensures { λ r. ⌜ (r ≡ cond b 1 0) × (r ≤ 1) ⌝ }
+{
+    if b { 1 } else { 0 }
+}
+
+fn larger(a: u64, b: u64) -> u64
+    ensures { λ r. ⌜ r ≡ max a b ⌝ }
+{
+    if a < b { b } else { a }
+}
+
+fn print_at(leaf: &[u8], s: usize) -> u8
+    requires { ⌜ (256 ≤ length (now leaf)) × (s < 14) ⌝ }
+    ensures { λ r. ⌜ r ≡ leafIn (now (leaf .entry)) .fp s ⌝ }
+{
+    leaf[2 + s]
+}
+
+// Stamps a fingerprint with the leaf's number; 1 where it bore it already.
+fn stamp(stamps: &mut [u8], print: u8, number: u8) -> u64
+    requires { ⌜ 256 ≤ length (now stamps) ⌝ }
+    ensures { λ r. ⌜ (now (stamps .exit) ≡ set (now (stamps .entry)) print number)
+        × (r ≡ cond (eqb (getD (now (stamps .entry)) print 0) number) 1 0) × (r ≤ 1) ⌝ }
+{
+    let i = print as usize;
+    let old = stamps[i];
+    stamps[i] = number;
+    one_if(old == number)
+}
+
+// The tally with one more occupied slot.
+fn note(t: Tally, last: u64, sought: u64, print: u8, key: u64, hit: u64) -> Tally
+    requires { ⌜ (Few t) × (hit ≤ 1) ⌝ }
+    ensures { λ r. ⌜ r ≡ noted last sought print key hit t ⌝ }
+{
+    let g = fingerprint_of(key);
+    Tally {
+        entries: t.entries + 1,
+        wrong: t.wrong + one_if(print != g),
+        low: t.low + one_if(key <= last),
+        reached: t.reached + one_if(key <= sought),
+        most: larger(t.most, key),
+        hits: t.hits + hit,
+    }
+}
+
+// One turn of the pass.
+fn slot(
+    leaf: &[u8],
+    head: Header,
+    last: u64,
+    sought: u64,
+    s: usize,
+    stamps: &mut [u8],
+    number: u8,
+    t: Tally,
+) -> Tally
+    requires { ⌜ (256 ≤ length (now leaf)) × (s < 14) × (bitsOf head ≡ headAt (now leaf) 0) × (256 ≤ length (now stamps))
+        × TellsTo (leafIn (now leaf)) last sought s t × Stamped (leafIn (now leaf)) number s (now stamps) ⌝ }
+    ensures { λ r. ⌜ TellsTo (leafIn (now (leaf .entry))) last sought (s + 1) r
+        × Stamped (leafIn (now (leaf .entry))) number (s + 1) (now (stamps .exit))
+        × (length (now (stamps .exit)) ≡ length (now (stamps .entry))) ⌝ }
+{
+    if head.occupied(s) {
+        let key = key_at(leaf, s);
+        let print = print_at(leaf, s);
+        let hit = stamp(stamps, print, number);
+        return note(t, last, sought, print, key, hit);
+    }
+    t
+}
+
+// The whole pass. The stamps may hold anything: a stamp of an earlier leaf with this number costs a comparison, and no more.
+pub fn tally_of(
+    leaf: &[u8],
+    head: Header,
+    last: u64,
+    sought: u64,
+    stamps: &mut [u8],
+    number: u8,
+) -> Tally
+    requires { ⌜ (256 ≤ length (now leaf)) × (bitsOf head ≡ headAt (now leaf) 0) × (256 ≤ length (now stamps)) ⌝ }
+    ensures { λ r. ⌜ Tells (leafIn (now (leaf .entry))) last sought r × (length (now (stamps .exit)) ≡ length (now (stamps .entry))) ⌝ }
+{
+    let mut t = Tally {
+        entries: 0,
+        wrong: 0,
+        low: 0,
+        reached: 0,
+        most: 0,
+        hits: 0,
+    };
+    let mut s = 0;
+    while s < Leaf::SLOTS {
+        t = slot(leaf, head, last, sought, s, stamps, number, t);
+        s += 1;
+    }
+    t
+}
+
+// Whether slot t is occupied and has the fingerprint and the key of slot s.
+fn same_key(leaf: &[u8], head: Header, s: usize, t: usize) -> bool
+    requires { ⌜ (256 ≤ length (now leaf)) × (s < 14) × (t < 14) × (bitsOf head ≡ headAt (now leaf) 0) ⌝ }
+    ensures { λ r. ⌜ r ≡ shares (leafIn (now (leaf .entry))) s t ⌝ }
+{
+    if head.occupied(t) {
+        if print_at(leaf, t) == print_at(leaf, s) {
+            return key_at(leaf, t) == key_at(leaf, s);
+        }
+    }
+    false
+}
+
+// Whether slot s is occupied and a lower one has its key.
+fn is_twin(leaf: &[u8], head: Header, s: usize) -> bool
+    requires { ⌜ (256 ≤ length (now leaf)) × (s < 14) × (bitsOf head ≡ headAt (now leaf) 0) ⌝ }
+    ensures { λ r. ⌜ r ≡ twinAt (leafIn (now (leaf .entry))) s ⌝ }
+{
+    if head.occupied(s) {
+        let mut t = 0;
+        while t < s {
+            if same_key(leaf, head, s, t) {
+                return true;
+            }
+            t += 1;
+        }
+    }
+    false
+}
+
+// Whether two keys of the leaf are equal.
+pub fn has_twins(leaf: &[u8], head: Header) -> bool
+    requires { ⌜ (256 ≤ length (now leaf)) × (bitsOf head ≡ headAt (now leaf) 0) ⌝ }
+    ensures { λ r. ⌜ r ≡ twins (leafIn (now (leaf .entry))) ⌝ }
+{
+    let mut s = 0;
+    while s < Leaf::SLOTS {
+        if is_twin(leaf, head, s) {
+            return true;
+        }
+        s += 1;
+    }
+    false
+}
