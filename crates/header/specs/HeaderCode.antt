@@ -19,7 +19,7 @@ module _ (l h p w : ℕ) (small : l < 2 ^ 64) (fits : p + w ≤ 64) where
   pub field-low : field (whole l h) p w ≡ field l p w
   field-low = field-of-low (whole l h) l 64 p w fits (low h 64 small ∙ sym (mod-eq-of-lt small))
 
-  patched-low : (d : ℕ) → patched (whole l h) p w d ≡ whole (patched l p w d) h
+  pub patched-low : (d : ℕ) → patched (whole l h) p w d ≡ whole (patched l p w d) h
   patched-low d =
       sym (patched-code (whole l h) p w d)
       ∙ rw (field-low, ← patched-code l p w d) (omega (arith, field-le l p w))
@@ -29,7 +29,7 @@ module _ (l h p w : ℕ) (small : l < 2 ^ 64) where
   unfolding field
   field-high = rw (← shr-shr (whole l h) 64 p, high h 64 small)
 
-  patched-high : (d : ℕ) → patched (whole l h) (64 + p) w d ≡ whole l (patched h p w d)
+  pub patched-high : (d : ℕ) → patched (whole l h) (64 + p) w d ≡ whole l (patched h p w d)
   patched-high d =
       sym (patched-code (whole l h) (64 + p) w d)
       ∙ rw (field-high, ← patched-code h p w d, pow-add 2 64 p)

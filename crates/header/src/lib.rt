@@ -1,6 +1,6 @@
 // The header of a leaf as a value: words 0 and 1. Bit s says that slot s is occupied, bit 14 is the lock, bit 15 is alt, and from
 // bit 16 on stand the fingerprints of the 14 slots.
-mod bits;
+pub mod bits;
 
 use crate::bits::get;
 use crate::bits::replace;

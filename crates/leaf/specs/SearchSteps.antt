@@ -9,7 +9,7 @@ use borrow.Author.Tests.{eq-eqb, ne-eqb, le-leb, lt-leb}
 use lib.Dec.{ltb, leb, eqb}
 use Rattle.words.specs.Words.{wordAt, reads}
 use Rattle.words.specs.Bools.{both}
-use Rattle.header.specs.Header.{headAt, altIn, isOccupied, fingerprintIn, fingerprintOf}
+use Rattle.header.specs.Header.{headAt, altIn, isLocked, isOccupied, fingerprintIn, fingerprintOf}
 use Rattle.leaf.specs.Leaf.{Leaf, occIn, leafIn}
 use Rattle.leaf.specs.LeafLaws.{occ-in}
 use Rattle.leaf.specs.Search.{pickSlot, lowest, holdsKey, slotOf, Within, nearer, closer, closest, leastFrom, countTo}
@@ -26,6 +26,10 @@ module _ (l : List ℕ) (h : ℕ) (head : h ≡ headAt l 0) where
   pub in-fp : (s : ℕ) → fingerprintIn h s ≡ leafIn l .fp s
   unfolding leafIn reads headAt
   in-fp s = rw head refl
+
+  pub in-lock : isLocked h ≡ leafIn l .lock
+  unfolding leafIn reads headAt
+  in-lock = rw head refl
 
   pub in-next : (a p : ℕ) → a ≡ altIn h → p ≡ 240 + 8 * a → wordAt l p ≡ leafIn l .next
   unfolding leafIn reads headAt

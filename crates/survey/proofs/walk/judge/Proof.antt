@@ -1,0 +1,67 @@
+use borrow.Author.Needs.{needs}
+use native.Mathlib.Omega.{arith}
+use mathlib.Core.Path.{sym, _∙_}
+use denote.Ref.{now}
+use Rattle.header.specs.Header.{bitsOf}
+use Rattle.leaf.specs.Leaf.{leafIn}
+use Rattle.leaf.specs.Tally.{twins}
+use Rattle.leaf.specs.SearchSteps.{in-lock}
+use Rattle.survey.specs.Walk.{stateOf}
+use Rattle.survey.specs.Turns.{fault-near, fault-is, judged-on, judged-stop, few-entries}
+use Rattle.survey.proofs.walk.judge.Statement.{statement}
+use Rattle.survey.proofs.walk.judge.Tie as tie
+
+onward-requires : tie.Need-onward-requires
+onward-requires c κs =
+    let f = c .before in
+    let t = f .before .before .before in
+    let n = t .before .before .before in
+    let a = n .before .before .before .before .args in
+    let near = fault-near (a .n) (n .next-of .result) (bitsOf (n .before .read .result)) (twins (leafIn (now (a .leaf)))) (t .tally-of .result)
+    (stateOf (a .w)) (sym (f .fault-of .ensures) ∙ c .if1 .taken) in
+    (omega arith, omega arith, omega arith, few-entries (now (a .leaf)) _ _ (t .tally-of .result) (t .tally-of .ensures .0))
+
+returns : tie.Need-returns
+returns c =
+    let f = c .before .before in
+    let t = f .before .before .before in
+    let n = t .before .before .before in
+    let a = n .before .before .before .before .args in
+    let L = leafIn (now (a .leaf)) in (
+      c .onward .ensures
+          ∙ judged-on L (a .n) (a .key) (stateOf (a .w)) (f .fault-of .result)
+          (f .fault-of .ensures
+          ∙ fault-is L (a .n) (a .key) (n .next-of .result) (bitsOf (n .before .read .result)) (t .tally-of .result) (stateOf (a .w)) (t .tally-of .ensures .0)
+          (n .next-of .ensures)
+          (in-lock (now (a .leaf)) _ (n .before .read .ensures)))
+          (n .next-of .result)
+          (t .tally-of .result)
+          (t .tally-of .ensures .0)
+          (n .next-of .ensures)
+          (c .before .if1 .taken),
+      t .tally-of .ensures .1,
+    )
+
+returns-2 : tie.Need-returns-2
+returns-2 c =
+    let f = c .before .before in
+    let t = f .before .before .before in
+    let n = t .before .before .before in
+    let a = n .before .before .before .before .args in
+    let L = leafIn (now (a .leaf)) in (
+      c .stop .ensures
+          ∙ judged-stop L (a .n) (a .key) (stateOf (a .w)) (f .fault-of .result)
+          (f .fault-of .ensures
+          ∙ fault-is L (a .n) (a .key) (n .next-of .result) (bitsOf (n .before .read .result)) (t .tally-of .result) (stateOf (a .w)) (t .tally-of .ensures .0)
+          (n .next-of .ensures)
+          (in-lock (now (a .leaf)) _ (n .before .read .ensures)))
+          (c .before .if1 .left),
+      t .tally-of .ensures .1,
+    )
+
+pub judge-spec : {M : Type 1} → statement M
+judge-spec =
+    tie.close
+    (tie.spec
+    (λ c κs. search needs) (λ c κs. search needs) (λ c κs. search needs) (λ c κs. search needs) (λ c κs. search needs)
+    onward-requires (λ c. search needs) returns (λ c κs. search needs) (λ c. search needs) returns-2)

@@ -1,0 +1,65 @@
+// A set of block numbers, one bit for each.
+use header::bits::get;
+use header::bits::replace;
+ghost use mathlib.Core.Path.{_≡_};
+ghost use mathlib.Core.Bool.{false, true};
+ghost use Prim.Native.Nat.{_<_};
+ghost use Rattle.header.specs.Fields.{patched};
+ghost use Rattle.survey.specs.Marks.{setOf, isIn};
+
+pub struct Marks {
+    pub a: u64,
+    pub b: u64,
+    pub c: u64,
+    pub d: u64,
+}
+
+impl Marks {
+    pub fn none() -> Marks
+        ensures { λ r. ⌜ setOf r ≡ 0 ⌝ }
+    {
+        Marks {
+            a: 0,
+            b: 0,
+            c: 0,
+            d: 0,
+        }
+    }
+
+    pub fn has(self, block: usize) -> bool
+        requires { ⌜ block < 256 ⌝ }
+        ensures { λ r. ⌜ r ≡ isIn (setOf self) block ⌝ }
+    {
+        if block < 64 {
+            return get(self.a, block, 1) == 1;
+        }
+        if block < 128 {
+            return get(self.b, block - 64, 1) == 1;
+        }
+        if block < 192 {
+            return get(self.c, block - 128, 1) == 1;
+        }
+        get(self.d, block - 192, 1) == 1
+    }
+
+    pub fn with(self, block: usize) -> Marks
+        requires { ⌜ block < 256 ⌝ }
+        ensures { λ r. ⌜ setOf r ≡ patched (setOf self) block 1 1 ⌝ }
+    {
+        let mut r = self;
+        if block < 64 {
+            r.a = replace(self.a, block, 1, 1);
+            return r;
+        }
+        if block < 128 {
+            r.b = replace(self.b, block - 64, 1, 1);
+            return r;
+        }
+        if block < 192 {
+            r.c = replace(self.c, block - 128, 1, 1);
+            return r;
+        }
+        r.d = replace(self.d, block - 192, 1, 1);
+        r
+    }
+}

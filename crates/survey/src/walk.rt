@@ -1,0 +1,197 @@
+// The walk.
+use crate::marks::Marks;
+use header::Header;
+use leaf::search::next_of;
+use leaf::tally::Tally;
+use leaf::tally::has_twins;
+use leaf::tally::tally_of;
+ghost use mathlib.Core.Path.{_≡_};
+ghost use mathlib.Core.Bool.{false, not, cond};
+ghost use Prim.Native.Nat.{_+_, _*_, _/_, _≤_, _<_};
+ghost use lib.Dec.{eqb};
+ghost use lib.ListN.{length};
+ghost use Rattle.words.specs.Words.{reads};
+ghost use Rattle.words.specs.Bools.{both};
+ghost use Rattle.header.specs.Header.{headAt, bitsOf};
+ghost use Rattle.leaf.specs.Leaf.{leafIn, view};
+ghost use Rattle.leaf.specs.Tally.{Tells, twins};
+ghost use Rattle.survey.specs.Marks.{setOf, isIn};
+ghost use Rattle.survey.specs.Walk.{stateOf, firstFault, stopped, moved, faultBy, judged, start, surveyed};
+
+// Where the walk is and what it has noted. The stage is 0 while it goes on, 1 where the chain has ended, and else the fault:
+// request [1]'s numbers, 31 to 37. All are numbers, so that none is copied with padding.
+pub struct Walk {
+    pub stage: u64,
+    pub at: u64,
+    pub prev: u64,
+    pub target: u64,
+    pub before: u64,
+    pub leaves: u64,
+    pub entries: u64,
+    pub last: u64,
+    pub met: Marks,
+}
+
+fn pick(b: bool, x: u64, y: u64) -> u64
+    ensures { λ r. ⌜ r ≡ cond b x y ⌝ }
+{
+    if b { x } else { y }
+}
+
+fn and(a: bool, b: bool) -> bool
+    ensures { λ r. ⌜ r ≡ both a b ⌝ }
+{
+    if a { b } else { false }
+}
+
+// The first of the faults, in the order in which they are told, or 0.
+fn first_fault(
+    far: bool,
+    again: bool,
+    locked: bool,
+    bare: bool,
+    wrong: bool,
+    twin: bool,
+    low: bool,
+) -> u64
+    ensures { λ r. ⌜ r ≡ firstFault far again locked bare wrong twin low ⌝ }
+{
+    if far {
+        return 31;
+    }
+    if again {
+        return 32;
+    }
+    if locked {
+        return 33;
+    }
+    if bare {
+        return 34;
+    }
+    if wrong {
+        return 35;
+    }
+    if twin {
+        return 36;
+    }
+    if low {
+        return 37;
+    }
+    0
+}
+
+fn stop(w: Walk, fault: u64) -> Walk
+    ensures { λ r. ⌜ stateOf r ≡ stopped fault (stateOf w) ⌝ }
+{
+    let mut r = w;
+    r.stage = fault;
+    r
+}
+
+// The leaf at hand is good: note it, and go on to the next.
+fn onward(w: Walk, next: u64, t: Tally) -> Walk
+    requires { ⌜ (next < 256) × (w .leaves ≤ 256) × (w .entries ≤ 3584) × (t .entries ≤ 14) ⌝ }
+    ensures { λ r. ⌜ stateOf r ≡ moved next (t .entries) (t .reached) (t .most) (stateOf w) ⌝ }
+{
+    let met = w.met;
+    let met = met.with(next as usize);
+    Walk {
+        stage: pick(next == 0, 1, 0),
+        at: next,
+        prev: w.at,
+        target: pick(t.reached == 0, w.target, w.at),
+        before: pick(t.reached == 0, w.before, w.prev),
+        leaves: w.leaves + 1,
+        entries: w.entries + t.entries,
+        last: pick(t.entries == 0, w.last, t.most),
+        met: met,
+    }
+}
+
+// Whether the next block was met before.
+fn is_again(met: Marks, next: u64) -> bool
+    requires { ⌜ next < 256 ⌝ }
+    ensures { λ r. ⌜ r ≡ both (not (eqb next 0)) (isIn (setOf met) next) ⌝ }
+{
+    and(next != 0, met.has(next as usize))
+}
+
+// Whether a leaf is empty and not block 0.
+fn is_bare(entries: u64, at: u64) -> bool
+    ensures { λ r. ⌜ r ≡ both (eqb entries 0) (not (eqb at 0)) ⌝ }
+{
+    and(entries == 0, at != 0)
+}
+
+// Whether some key is not above those of the earlier leaves, if these have any.
+fn is_low(entries: u64, low: u64) -> bool
+    ensures { λ r. ⌜ r ≡ both (not (eqb entries 0)) (not (eqb low 0)) ⌝ }
+{
+    and(entries != 0, low != 0)
+}
+
+// Whether two keys are equal, where no hit says that none are.
+fn is_twinned(leaf: &[u8], head: Header, hits: u64) -> bool
+    requires { ⌜ (256 ≤ length (now leaf)) × (bitsOf head ≡ headAt (now leaf) 0) × (hits ≡ 0 → twins (leafIn (now leaf)) ≡ false) ⌝ }
+    ensures { λ r. ⌜ r ≡ twins (leafIn (now (leaf .entry))) ⌝ }
+{
+    if hits == 0 {
+        return false;
+    }
+    has_twins(leaf, head)
+}
+
+// The fault of a leaf whose active sibling and tally are told, or 0.
+fn fault_of(leaf: &[u8], head: Header, n: u64, w: Walk, next: u64, t: Tally) -> u64
+    requires { ⌜ (256 ≤ length (now leaf)) × (n ≤ 256) × (bitsOf head ≡ headAt (now leaf) 0)
+        × (t .hits ≡ 0 → twins (leafIn (now leaf)) ≡ false) ⌝ }
+    ensures { λ r. ⌜ r ≡ faultBy n next (bitsOf head) (twins (leafIn (now (leaf .entry)))) t (stateOf w) ⌝ }
+{
+    if n <= next {
+        return 31;
+    }
+    let again = is_again(w.met, next);
+    let locked = head.locked();
+    let bare = is_bare(t.entries, w.at);
+    let wrong = t.wrong != 0;
+    let twin = is_twinned(leaf, head, t.hits);
+    let low = is_low(w.entries, t.low);
+    first_fault(false, again, locked, bare, wrong, twin, low)
+}
+
+// The leaf's number for the stamps: not 0, which they hold at first, and that of no leaf near it.
+fn number_of(leaves: u64) -> u8 {
+    (leaves % 255 + 1) as u8
+}
+
+fn judge(leaf: &[u8], n: u64, key: u64, stamps: &mut [u8], w: Walk) -> Walk
+    requires { ⌜ (256 ≤ length (now leaf)) × (n ≤ 256) × (256 ≤ length (now stamps)) × (w .leaves ≤ 256) × (w .entries ≤ 3584) ⌝ }
+    ensures { λ r. ⌜ (stateOf r ≡ judged (leafIn (now (leaf .entry))) n key (stateOf w))
+        × (length (now (stamps .exit)) ≡ length (now (stamps .entry))) ⌝ }
+{
+    let head = Header::read(leaf, 0);
+    let next = next_of(leaf, head);
+    let t = tally_of(leaf, head, w.last, key, stamps, number_of(w.leaves));
+    let fault = fault_of(leaf, head, n, w, next, t);
+    if fault == 0 {
+        return onward(w, next, t);
+    }
+    stop(w, fault)
+}
+
+fn begun() -> Walk
+    ensures { λ r. ⌜ stateOf r ≡ start ⌝ }
+{
+    let met = Marks::none().with(0);
+    Walk {
+        stage: 0,
+        at: 0,
+        prev: 0,
+        target: 0,
+        before: 0,
+        leaves: 0,
+        entries: 0,
+        last: 0,
+        met: met,
+    }
+}
