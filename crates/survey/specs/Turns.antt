@@ -4,16 +4,16 @@ use mathlib.Core.Bool.{Bool, true, false, cond, not}
 use mathlib.Core.List.{List}
 use Prim.Native.Nat.{ℕ, zero, suc, _+_, _-_, _*_, _≤_, _<_}
 use native.Mathlib.Omega.{arith}
-use borrow.Author.Tests.{eq-eqb, ne-eqb, leb-false}
+use borrow.Author.Tests.{eq-eqb, ne-eqb, eqb-true, leb-false}
 use lib.Dec.{leb, eqb}
 use Rattle.words.specs.Bools.{by-test}
 use Rattle.header.specs.Header.{isLocked}
-use Rattle.leaf.specs.Leaf.{Leaf, leafIn}
+use Rattle.leaf.specs.Leaf.{Leaf, leafIn, view}
 use Rattle.leaf.specs.Search.{count, countTo}
 use Rattle.leaf.specs.SearchLaws.{count-most}
 use Rattle.leaf.specs.Tally.{Tells, wrongAt, atMost, mostTo, twins}
 use Rattle.leaf.specs.declared.tally.Tally.{Tally}
-use Rattle.survey.specs.Walk.{State, stopped, moved, firstFault, againBy, bareBy, lowBy, faultBy, faultOf, judged, walk}
+use Rattle.survey.specs.Walk.{State, stopped, moved, firstFault, againBy, bareBy, lowBy, faultBy, faultOf, judged, start, walk, surveyed}
 
 -- ---- the fault
 
@@ -25,6 +25,20 @@ fault-near N next head twin t st e = by-test
     (λ x q z. leb-false N next q)
     refl
     e
+
+pub fault-far : (L : Leaf) (N : ℕ) (st : State) → faultOf L N st ≡ 0 → L .next < N
+unfolding faultOf
+fault-far L N st e = by-test
+    (λ b. leb N (L .next) ≡ b → cond b 31 rest ≡ 0 → L .next < N)
+    (leb N (L .next))
+    (λ x q z. absurd (omega arith))
+    (λ x q z. leb-false N (L .next) q)
+    refl
+    e
+  where
+    rest : ℕ
+    rest = firstFault false (againBy st (L .next)) (L .lock) (bareBy st (count L)) (not (eqb (countTo (wrongAt L) (L .size)) 0)) (twins L)
+        (lowBy st (countTo (atMost L (st .last)) (L .size)))
 
 -- what the code has at hand is what is asked of the leaf
 pub fault-is : (L : Leaf) (N key next head : ℕ) (t : Tally) (st : State) → Tells L (st .last) key t → next ≡ L .next → isLocked head ≡ L .lock
@@ -47,7 +61,90 @@ module _ (L : Leaf) (N key : ℕ) (st : State) (fault : ℕ) (is : fault ≡ fau
   unfolding judged
   judged-stop ne = rw (ne-eqb (faultOf L N st) 0 (λ e. ne (is ∙ e))) (ap (λ (f : ℕ). stopped f st) is)
 
--- the bounds that a walk keeps
+-- ---- the bounds that a walk keeps
+
 pub few-entries : (l : List ℕ) (last key : ℕ) (t : Tally) → Tells (leafIn l) last key t → t .entries ≤ 14
 unfolding leafIn count
 few-entries l last key t tells = omega (arith, tells .entries, count-most (leafIn l .occ) 14)
+
+pub view-few : (w : ℕ → ℕ) (b : ℕ) → count (view w b) ≤ 14
+unfolding view count
+view-few w b = count-most (view w b .occ) 14
+
+-- in i turns over N blocks
+pub record Bounded (N i : ℕ) (st : State) : Type 0 where
+  pub at : st .at < N
+  pub prev : st .prev < N
+  pub target : st .target < N
+  pub before : st .before < N
+  pub leaves : st .leaves ≤ i
+  pub entries : st .entries ≤ 14 * i
+
+pub start-bounded : (N : ℕ) → 0 < N → Bounded N 0 start
+start-bounded N h = record { at = h; prev = h; target = h; before = h; leaves = omega arith; entries = omega arith }
+
+pick-below : (b : Bool) (x y N : ℕ) → x < N → y < N → cond b x y < N
+pick-below true x y N a b = a
+pick-below false x y N a b = b
+
+judged-bounded : (w : ℕ → ℕ) (b N key i : ℕ) (st : State) → Bounded N i st → Bounded N (i + 1) (judged (view w b) N key st)
+unfolding judged
+judged-bounded w b N key i st B =
+    by-test (λ x. eqb (faultOf L N st) 0 ≡ x → Bounded N (i + 1) (cond x (moved (L .next) (count L) reached most st) (stopped (faultOf L N st) st)))
+    (eqb (faultOf L N st) 0)
+    (λ x e. record {
+      at = near (eqb-true (faultOf L N st) 0 e);
+      prev = B .at;
+      target = pick-below (eqb reached 0) (st .target) (st .at) N (B .target) (B .at);
+      before = pick-below (eqb reached 0) (st .before) (st .prev) N (B .before) (B .prev);
+      leaves = omega (arith, B .leaves);
+      entries = omega (arith, B .entries, few);
+    })
+    (λ x e. record {
+      at = B .at;
+      prev = B .prev;
+      target = B .target;
+      before = B .before;
+      leaves = omega (arith, B .leaves);
+      entries = omega (arith, B .entries);
+    })
+    refl
+  where
+    L : Leaf
+    L = view w b
+
+    reached : ℕ
+    reached = countTo (atMost L key) (L .size)
+
+    most : ℕ
+    most = mostTo L (L .size)
+
+    few : count L ≤ 14
+    few = view-few w b
+
+    near : faultOf L N st ≡ 0 → L .next < N
+    near e = fault-far L N st e
+
+pub turn-bounded : (w : ℕ → ℕ) (N key i : ℕ) (st r : State) → Bounded N i st → r ≡ judged (view w (st .at)) N key st → Bounded N (i + 1) r
+turn-bounded w N key i st r B e = rw e (judged-bounded w (st .at) N key i st B)
+
+-- ---- the turns
+
+module _ (I : ℕ → Leaf) (N key : ℕ) where
+  pub walk-whole : (st : State) → st ≡ start → walk I N key (N - 0) st ≡ surveyed I N key
+  unfolding surveyed
+  walk-whole st e = let n : N - 0 ≡ N = omega arith in rw (n, e)
+
+  pub walk-turn : (i : ℕ) (st r whole : State) → i < N → st .stage ≡ 0 → r ≡ judged (I (st .at)) N key st
+      → walk I N key (N - i) st ≡ whole → walk I N key (N - (i + 1)) r ≡ whole
+  unfolding walk
+  walk-turn i st r whole h e j is = sym (let n : N - i ≡ suc (N - (i + 1)) = omega arith in rw (n, eq-eqb (st .stage) 0 e, j)) ∙ is
+
+  pub walk-stop : (n : ℕ) (st : State) → (st .stage ≡ 0 → ⊥) → walk I N key n st ≡ st
+  unfolding walk
+  walk-stop zero st ne = refl
+  walk-stop (suc n) st ne = rw (ne-eqb (st .stage) 0 ne)
+
+  pub walk-end : (i : ℕ) (st : State) → N ≤ i → walk I N key (N - i) st ≡ st
+  unfolding walk
+  walk-end i st h = let n : N - i ≡ 0 = omega arith in rw n

@@ -1,6 +1,7 @@
 // The walk.
 use crate::marks::Marks;
 use header::Header;
+use leaf::place::Leaf;
 use leaf::search::next_of;
 use leaf::tally::Tally;
 use leaf::tally::has_twins;
@@ -194,4 +195,42 @@ fn begun() -> Walk
         last: 0,
         met: met,
     }
+}
+
+// One turn: the leaf at hand, in its part of the image, judged.
+fn turn(image: &[u8], n: u64, key: u64, stamps: &mut [u8], w: Walk) -> Walk
+    requires { ⌜ (n ≤ 256) × (256 * n ≤ length (now image)) × (w .at < n) × (256 ≤ length (now stamps)) × (w .leaves ≤ 256)
+        × (w .entries ≤ 3584) ⌝ }
+    ensures { λ r. ⌜ (stateOf r ≡ judged (view (reads (now (image .entry))) (w .at)) n key (stateOf w))
+        × (length (now (stamps .exit)) ≡ length (now (stamps .entry))) ⌝ }
+{
+    let a = Leaf::BYTES * (w.at as usize);
+    let e = a + Leaf::BYTES;
+    judge(&image[a..e], n, key, stamps, w)
+}
+
+// At most as many turns as there are blocks: no chain is longer.
+fn walk_along(image: &[u8], key: u64, stamps: &mut [u8]) -> Walk
+    requires { ⌜ (256 ≤ length (now image)) × (length (now image) ≤ 65536) × (256 ≤ length (now stamps)) ⌝ }
+    ensures { λ r. ⌜ stateOf r ≡ surveyed (view (reads (now (image .entry)))) (length (now (image .entry)) / 256) key ⌝ }
+{
+    let n = image.len() / Leaf::BYTES;
+    let mut w = begun();
+    let mut i = 0;
+    while i < n {
+        if w.stage != 0 {
+            return w;
+        }
+        w = turn(image, n as u64, key, stamps, w);
+        i += 1;
+    }
+    w
+}
+
+pub fn survey(image: &[u8], key: u64) -> Walk
+    requires { ⌜ (256 ≤ length (now image)) × (length (now image) ≤ 65536) ⌝ }
+    ensures { λ r. ⌜ stateOf r ≡ surveyed (view (reads (now (image .entry)))) (length (now (image .entry)) / 256) key ⌝ }
+{
+    let mut stamps = [0u8; 256];
+    walk_along(image, key, &mut stamps)
 }
