@@ -1,0 +1,16 @@
+pub mod Below
+pub mod Model
+pub mod BelowLaws
+pub mod Settling
+pub mod Section
+pub mod Concatenation
+pub mod Encoding
+pub mod Lists
+pub mod EncodingLaws
+pub mod Shapes
+pub mod CallShapes
+pub mod Rules
+pub mod LastFence
+pub mod Views
+pub mod Refusals
+pub mod Cases

@@ -1,0 +1,18 @@
+-- Refusals as data. To be believed: document 01's table and its "Order".
+-- A call's refusals are a list of numbers, each with the condition under which it is "given exactly", in document 01's order.
+use Prim.Native.Nat.{ℕ, _<_}
+use native.Mathlib.Omega.{arith}
+use mathlib.Core.Bool.{Bool, true, false, cond}
+use mathlib.Core.List.{List, [], _∷_}
+use mathlib.Core.Path.{_≡_, refl}
+
+-- The answer is the first number whose condition holds. "An accepted call answers 0."
+abbrev pub answer : List (ℕ × Bool) → ℕ
+answer [] = 0
+answer (row ∷ rows) = cond (row .1) (row .0) (answer rows)
+
+-- a call that is accepted has passed its first row, and the others
+pub row-passed : (number : ℕ) (given : Bool) (others : ℕ) → 0 < number → cond given number others ≡ 0
+    → (given ≡ false) × (others ≡ 0)
+row-passed number true others h e = absurd (omega arith)
+row-passed number false others h e = (refl, e)
