@@ -1,9 +1,7 @@
 -- An image as the contracts see it: its bytes.
 use mathlib.Core.Path.{_≡_}
-use mathlib.Core.Bool.{Bool, not, _||_}
 use mathlib.Core.List.{List}
-use Prim.Native.Nat.{ℕ, _/_, _%_}
-use lib.Dec.{ltb, eqb}
+use Prim.Native.Nat.{ℕ, _/_}
 use lib.ListN.{length, getD}
 use Rattle.words.specs.Words.{reads}
 use Rattle.leaf.specs.Leaf.{Leaf, Taken, view}
@@ -16,10 +14,6 @@ blocks l = length l / 256
 
 abbrev pub leaves : List ℕ → ℕ → Leaf
 leaves l = view (reads l)
-
--- refusal 1: "image length 0, over 65,536, or no multiple of 256"
-unfoldable pub badLength : ℕ → Bool
-badLength n = eqb n 0 || (ltb 65536 n || not (eqb (n % 256) 0))
 
 -- refusal 3 is given where there is no such chain: "image not sound"
 pub record SoundImage (l : List ℕ) : Type 0 where

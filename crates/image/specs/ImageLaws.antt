@@ -18,7 +18,8 @@ use Rattle.leaf.specs.LeafLaws.{block-at, block-past}
 use Rattle.leaf.specs.Search.{count}
 use Rattle.leaf.specs.SearchLaws.{count-zero}
 use Rattle.image.specs.Chain.{All, Links, Has, Sound}
-use Rattle.image.specs.Image.{blocks, leaves, badLength, SoundImage, Blank, AlikeLeaf, Alike}
+use Rattle.steps.specs.Refusals.{badImage}
+use Rattle.image.specs.Image.{blocks, leaves, SoundImage, Blank, AlikeLeaf, Alike}
 use Rattle.image.specs.Same.{Same}
 use Rattle.image.specs.ChainLaws.{all-map, Good, sound-good, good-sound, Agree}
 use Rattle.image.specs.ChainSize.{chain-unique}
@@ -35,8 +36,8 @@ pub record Sized (l : List ℕ) : Type 0 where
   pub some : 0 < blocks l
   pub most : blocks l ≤ 256
 
-pub good-length : (l : List ℕ) → badLength (length l) ≡ false → Sized l
-unfolding badLength
+pub good-length : (l : List ℕ) → badImage (length l) ≡ false → Sized l
+unfolding badImage
 good-length l e = go (eqb (length l) 0) (ltb 65536 (length l)) (eqb (length l % 256) 0) refl refl refl e
   where
     go : (a b c : Bool) → eqb (length l) 0 ≡ a → ltb 65536 (length l) ≡ b → eqb (length l % 256) 0 ≡ c
@@ -50,8 +51,8 @@ good-length l e = go (eqb (length l) 0) (ltb 65536 (length l)) (eqb (length l % 
         let z : length l % 256 ≡ 0 = eqb-true (length l % 256) 0 r in
         record { whole = omega arith; some = omega arith; most = omega arith }
 
-pub length-good : (l : List ℕ) → Sized l → badLength (length l) ≡ false
-unfolding badLength
+pub length-good : (l : List ℕ) → Sized l → badImage (length l) ≡ false
+unfolding badImage
 length-good l s =
     rw (ne-eqb (length l) 0 (omega arith), le-ltb 65536 (length l) (omega arith), eq-eqb (length l % 256) 0 (omega arith))
 

@@ -25,7 +25,8 @@ use Rattle.steps.specs.Lists.{Each}
 use Rattle.steps.specs.Refusals.{row-passed}
 use Rattle.machine.specs.declared.Ran.{Ran}
 use Rattle.machine.specs.declared.Ran.the-variants.{Done, BadImage, BadList, BadArrivals}
-use Rattle.machine.specs.Calls.{numberOf, storeWord, arrived, badImage, badList, outside, badArrivals, runOf, cutOf}
+use Rattle.steps.specs.Refusals.{badImage}
+use Rattle.machine.specs.Calls.{numberOf, storeWord, arrived, badList, outside, badArrivals, runOf, cutOf}
 use Rattle.machine.specs.Fits.{Fits, Passed, passed, passes, all-fit, line-inside}
 
 -- ---- the number tells the answer, so the contracts allow one result

@@ -1,5 +1,5 @@
 -- What run and cut answer and what they leave of the image, for all inputs. To be believed: this is their whole contract.
-use Prim.Native.Nat.{ℕ, _*_, _/_, _%_}
+use Prim.Native.Nat.{ℕ, _*_, _/_}
 use mathlib.Core.Bool.{Bool, not, cond, _||_}
 use mathlib.Core.List.{List, [], _∷_}
 use lib.ListN.{length, getD}
@@ -8,7 +8,7 @@ use Rattle.words.specs.Words.{storeAt}
 use Rattle.steps.specs.Below.{anyBelow}
 use Rattle.steps.specs.Model.{line, made, run, cut, rule01, settled}
 use Rattle.steps.specs.Encoding.{stepAt, formedAt}
-use Rattle.steps.specs.Refusals.{answer}
+use Rattle.steps.specs.Refusals.{answer, badImage}
 use Rattle.machine.specs.declared.Ran.{Ran}
 use Rattle.machine.specs.declared.Ran.the-variants.{Done, BadImage, BadList, BadArrivals}
 
@@ -26,10 +26,6 @@ storeWord image p v = storeAt image (8 * p) v
 -- "given for each line how many of its stores in the first n steps arrived"
 abbrev pub arrived : List ℕ → ℕ → ℕ
 arrived arrivals l = getD arrivals l 0
-
--- 1: "image length 0, over 65,536, or no multiple of 256"
-unfoldable pub badImage : ℕ → Bool
-badImage size = eqb size 0 || (ltb 65536 size || not (eqb (size % 256) 0))
 
 -- 7: "n over 56, list shorter than 2n words, or one of the first n steps malformed"
 abbrev pub malformed : ℕ → List ℕ → ℕ → Bool

@@ -15,7 +15,8 @@ use Rattle.steps.specs.declared.Step.{Step}
 use Rattle.steps.specs.declared.Step.the-variants.{Store as store, WriteBack as writeBack, Fence as fence}
 use Rattle.steps.specs.Encoding.{inImage, stepAt, formedAt}
 use Rattle.steps.specs.EncodingLaws.{pair-of}
-use Rattle.machine.specs.Calls.{badImage, malformed, badList}
+use Rattle.steps.specs.Refusals.{badImage}
+use Rattle.machine.specs.Calls.{malformed, badList}
 
 abbrev pub Fits : ℕ → Step → Type 0
 Fits z (store p v) = 8 * p + 8 ≤ z

@@ -7,7 +7,7 @@ mod refusals;
 use crate::memory::cut_steps;
 use crate::memory::run_steps;
 use crate::refusals::bad_arrivals;
-use crate::refusals::bad_image;
+pub use crate::refusals::bad_image;
 use crate::refusals::bad_list;
 ghost use mathlib.Core.Path.{_≡_};
 ghost use Rattle.machine.specs.Calls.{numberOf, runOf, cutOf};

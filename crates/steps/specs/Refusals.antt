@@ -1,10 +1,11 @@
 -- Refusals as data. To be believed: document 01's table and its "Order".
 -- A call's refusals are a list of numbers, each with the condition under which it is "given exactly", in document 01's order.
-use Prim.Native.Nat.{ℕ, _<_}
+use Prim.Native.Nat.{ℕ, _%_, _<_}
 use native.Mathlib.Omega.{arith}
-use mathlib.Core.Bool.{Bool, true, false, cond}
+use mathlib.Core.Bool.{Bool, true, false, cond, not, _||_}
 use mathlib.Core.List.{List, [], _∷_}
 use mathlib.Core.Path.{_≡_, refl}
+use lib.Dec.{ltb, eqb}
 
 -- The answer is the first number whose condition holds. "An accepted call answers 0."
 abbrev pub answer : List (ℕ × Bool) → ℕ
@@ -16,3 +17,7 @@ pub row-passed : (number : ℕ) (given : Bool) (others : ℕ) → 0 < number →
     → (given ≡ false) × (others ≡ 0)
 row-passed number true others h e = absurd (omega arith)
 row-passed number false others h e = (refl, e)
+
+-- 1: "image length 0, over 65,536, or no multiple of 256"
+unfoldable pub badImage : ℕ → Bool
+badImage size = eqb size 0 || (ltb 65536 size || not (eqb (size % 256) 0))

@@ -1,6 +1,6 @@
 -- `machine::refusals::bad_image` meets its contract: each return rewrites with the tests that led there.
 use borrow.Author.Tests.{eq-eqb, ne-eqb, lt-ltb, le-ltb}
-use Rattle.machine.specs.Calls.{badImage}
+use Rattle.steps.specs.Refusals.{badImage}
 use Rattle.machine.proofs.refusals.bad_image.Statement.{statement}
 use Rattle.machine.proofs.refusals.bad_image.Tie as tie
 
