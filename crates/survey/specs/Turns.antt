@@ -128,6 +128,31 @@ judged-bounded w b N key i st B =
 pub turn-bounded : (w : ℕ → ℕ) (N key i : ℕ) (st r : State) → Bounded N i st → r ≡ judged (view w (st .at)) N key st → Bounded N (i + 1) r
 turn-bounded w N key i st r B e = rw e (judged-bounded w (st .at) N key i st B)
 
+bounded-more : (N i j : ℕ) (st : State) → i ≤ j → Bounded N i st → Bounded N j st
+bounded-more N i j st h B = record {
+  at = B .at;
+  prev = B .prev;
+  target = B .target;
+  before = B .before;
+  leaves = omega (arith, B .leaves);
+  entries = omega (arith, B .entries);
+}
+
+walk-bounded : (w : ℕ → ℕ) (N key n i : ℕ) (st : State) → Bounded N i st → Bounded N (i + n) (walk (view w) N key n st)
+unfolding walk
+walk-bounded w N key zero i st B = bounded-more N i (i + 0) st (omega arith) B
+walk-bounded w N key (suc n) i st B =
+    by-test (λ b. Bounded N (i + suc n) (cond b (walk (view w) N key n (judged (view w (st .at)) N key st)) st)) (eqb (st .stage) 0)
+    (λ e.
+    let q : i + 1 + n ≤ i + suc n = omega arith in
+    bounded-more N (i + 1 + n) (i + suc n) _ q (walk-bounded w N key n (i + 1) (judged (view w (st .at)) N key st) (judged-bounded w (st .at) N key i st B)))
+    (λ e. bounded-more N i (i + suc n) st (omega arith) B)
+
+pub surveyed-bounded : (w : ℕ → ℕ) (N key : ℕ) → 0 < N → Bounded N N (surveyed (view w) N key)
+unfolding surveyed
+surveyed-bounded w N key h =
+    bounded-more N (0 + N) N (walk (view w) N key N start) (omega arith) (walk-bounded w N key N 0 start (start-bounded N h))
+
 -- ---- the turns
 
 module _ (I : ℕ → Leaf) (N key : ℕ) where

@@ -1,0 +1,118 @@
+-- The test `isSound` is image's `SoundImage`, whatever key the survey was told; and then the survey's notes are those of the chain.
+use mathlib.Core.Path.{_≡_, refl, sym, ap, ap₂, _∙_, subst}
+use mathlib.Core.Bool.{Bool, true, false, cond}
+use mathlib.Core.List.{List, [], _∷_, _++_}
+use mathlib.Core.Logic.{inl, inr, _≢_}
+use Prim.Native.Nat.{ℕ, zero, suc, _+_, _*_, _≤_, _<_}
+use native.Mathlib.Omega.{arith}
+use borrow.Author.Tests.{eq-eqb, ne-eqb, eqb-true}
+use lib.Dec.{eqb}
+use lib.ListN.{length}
+use Rattle.words.specs.Words.{reads}
+use Rattle.leaf.specs.Leaf.{Leaf, Taken}
+use Rattle.steps.specs.Refusals.{badImage}
+use Rattle.image.specs.Chain.{All, Links, Sound}
+use Rattle.image.specs.ChainSize.{chain-short, sound-later}
+use Rattle.image.specs.Image.{blocks, leaves, SoundImage}
+use Rattle.image.specs.ImageLaws.{good-length}
+use Rattle.image.specs.Blocks.{view-slot, view-size}
+use Rattle.image.specs.Target.{Target}
+use Rattle.survey.specs.Walk.{surveyed}
+use Rattle.survey.specs.Turns.{Bounded, surveyed-bounded}
+use Rattle.verdict.specs.Notes.{Notes, Aim, nowhere, here, lastOf}
+use Rattle.verdict.specs.Verdict.{says-sound, sound-says}
+use Rattle.index.specs.Reading.{isSound, chainFrom, chainOf}
+
+inside : (l : List ℕ) (b s : ℕ) → Taken (leaves l b) s → s < leaves l b .size
+inside l b s t = rw (view-size (reads l) b) (view-slot (reads l) b s t)
+
+-- what the survey of a sound image has found
+pub record Surveyed (l : List ℕ) (key : ℕ) : Type 0 where
+  pub chain : List ℕ
+  pub sound : Sound (leaves l) (blocks l) chain
+  pub notes : Notes (leaves l) (blocks l) key chain (surveyed (leaves l) (blocks l) key)
+
+module _ (l : List ℕ) (key : ℕ) (fine : badImage (length l) ≡ false) where
+  pub survey-sound : surveyed (leaves l) (blocks l) key .stage ≡ 1 → Surveyed l key
+  survey-sound e =
+      let r = says-sound (leaves l) (blocks l) key (inside l) e in record { chain = r .0; sound = r .1; notes = r .2 }
+
+  pub sound-survey : SoundImage l → surveyed (leaves l) (blocks l) key .stage ≡ 1
+  sound-survey S = sound-says (leaves l) (blocks l) key (inside l) ((good-length l fine) .some) (S .chain) (S .sound)
+
+pub test-sound : (l : List ℕ) → badImage (length l) ≡ false → isSound l ≡ true → SoundImage l
+unfolding isSound
+test-sound l fine e =
+    let s = survey-sound l 0 fine (eqb-true (surveyed (leaves l) (blocks l) 0 .stage) 1 e) in record { chain = s .chain; sound = s .sound }
+
+pub sound-test : (l : List ℕ) → badImage (length l) ≡ false → SoundImage l → isSound l ≡ true
+unfolding isSound
+sound-test l fine S = eq-eqb (surveyed (leaves l) (blocks l) 0 .stage) 1 (sound-survey l 0 fine S)
+
+-- a survey for any key gives the test's answer
+module _ (l : List ℕ) (key : ℕ) (fine : badImage (length l) ≡ false) where
+  pub says-yes : surveyed (leaves l) (blocks l) key .stage ≡ 1 → isSound l ≡ true
+  says-yes e = let s = survey-sound l key fine e in sound-test l fine (record { chain = s .chain; sound = s .sound })
+
+  pub says-no : (surveyed (leaves l) (blocks l) key .stage ≡ 1 → ⊥) → isSound l ≡ false
+  unfolding isSound
+  says-no ne = ne-eqb (surveyed (leaves l) (blocks l) 0 .stage) 1 (λ e.
+      let s = survey-sound l 0 fine e in ne (sound-survey l key fine (record { chain = s .chain; sound = s .sound })))
+
+-- ---- the chain as the function finds it
+
+chain-is : (I : ℕ → Leaf) (n b : ℕ) (bs : List ℕ) → All (λ x. x ≢ 0) bs → Links I (I b .next) bs 0 → length bs < n → chainFrom I n b ≡ b ∷ bs
+unfolding chainFrom
+chain-is I zero b bs z l h = absurd (omega arith)
+chain-is I (suc n) b [] z l h = ap (λ (t : Bool). b ∷ cond t [] (chainFrom I n (I b .next))) (eq-eqb (I b .next) 0 l)
+chain-is I (suc n) b (c ∷ bs) z l h =
+    ap (λ (t : Bool). b ∷ cond t [] (chainFrom I n (I b .next))) (ne-eqb (I b .next) 0 (λ e. z .0 (sym (l .0) ∙ e)))
+    ∙ ap (λ (x : ℕ). b ∷ chainFrom I n x) (l .0) ∙ ap (λ (cs : List ℕ). b ∷ cs) (chain-is I n c bs (z .1) (l .1) (omega arith))
+
+pub sound-chain : (l : List ℕ) (bs : List ℕ) → badImage (length l) ≡ false → Sound (leaves l) (blocks l) bs → chainOf l ≡ bs
+unfolding chainOf
+sound-chain l [] fine S = absurd (S .starts)
+sound-chain l (b ∷ bs) fine S =
+    let pos : 0 < blocks l = (good-length l fine) .some in
+    let short = chain-short (leaves l) (blocks l) (b ∷ bs) S pos in
+    ap (chainFrom (leaves l) (blocks l)) (sym (S .starts))
+    ∙ chain-is (leaves l) (blocks l) b bs (sound-later (leaves l) (blocks l) (b ∷ bs) S) (S .links .1) (omega arith)
+
+-- ---- the target
+
+-- the chain around the target that the survey noted
+pub record Aimed (I : ℕ → Leaf) (key : ℕ) (bs : List ℕ) (target before : ℕ) : Type 0 where
+  pub front : List ℕ
+  pub behind : List ℕ
+  pub whole : bs ≡ front ++ (target ∷ behind)
+  pub target-is : Target I target behind key
+  pub before-is : (target ≡ 0 → ⊥) → before ≡ lastOf front
+
+pub aim-target : (I : ℕ → Leaf) (N key : ℕ) (bs : List ℕ) (target before : ℕ) → Sound I N bs → Aim I key bs target before → Aimed I key bs target before
+aim-target I N key [] target before S a = absurd (S .starts)
+aim-target I N key (b ∷ bs) target before S (nowhere f z) = record {
+  front = [];
+  behind = bs;
+  whole = ap (λ (x : ℕ). x ∷ bs) (S .starts ∙ sym z);
+  target-is = record { low = inl z; high = λ j u h. f j u (inr h) };
+  before-is = λ ne. absurd (ne z);
+}
+aim-target I N key (b ∷ bs) target before S (here ys zs e p r f) = record {
+  front = ys;
+  behind = zs;
+  whole = e;
+  target-is = record { low = inr r; high = f };
+  before-is = λ ne. p;
+}
+
+-- ---- bounds that the code asks for
+
+pub long-enough : (l : List ℕ) → badImage (length l) ≡ false → (256 ≤ length l) × (length l ≤ 65536)
+long-enough l fine = let z = good-length l fine in (omega (arith, z .whole, z .some), omega (arith, z .whole, z .most))
+
+-- the blocks that a survey notes are of the image
+pub noted-bounds : (l : List ℕ) (key : ℕ) → badImage (length l) ≡ false → Bounded (blocks l) (blocks l) (surveyed (leaves l) (blocks l) key)
+noted-bounds l key fine = surveyed-bounded (reads l) (blocks l) key ((good-length l fine) .some)
+
+pub block-inside : (l : List ℕ) (b : ℕ) → badImage (length l) ≡ false → b < blocks l → 256 * b + 256 ≤ length l
+block-inside l b fine h = let z = good-length l fine in omega (arith, z .whole)

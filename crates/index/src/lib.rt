@@ -1,0 +1,2 @@
+// The calls that read an image.
+pub mod find;
