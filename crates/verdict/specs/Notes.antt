@@ -1,5 +1,5 @@
 -- What the state of a walk says of the leaves passed, xs: they are the chain so far, and the notes are theirs.
-use mathlib.Core.Path.{_≡_, refl, sym, ap, _∙_, subst}
+use mathlib.Core.Path.{_≡_, refl, sym, ap, ap₂, _∙_}
 use mathlib.Core.Bool.{Bool, true, false, cond, not}
 use mathlib.Core.List.{List, [], _∷_, _++_, append-assoc}
 use mathlib.Core.Logic.{_⊎_, inl, inr, _≢_}
@@ -25,11 +25,26 @@ use Rattle.image.specs.Walk.{Stands, Walked, Onward, walk-on}
 use Rattle.survey.specs.Walk.{State, againBy, bareBy, lowBy, moved}
 use Rattle.verdict.specs.Passed.{Passed}
 
--- the last of a list, 0 where it is empty: "the leaf before" of block 0 is never asked
+-- the last of a list, or p where it is empty: "the leaf before" of block 0 is never asked
+abbrev pub lastOr : ℕ → List ℕ → ℕ
+lastOr p [] = p
+lastOr p (x ∷ xs) = lastOr x xs
+
 abbrev pub lastOf : List ℕ → ℕ
-lastOf [] = 0
-lastOf (x ∷ []) = x
-lastOf (x ∷ y ∷ xs) = lastOf (y ∷ xs)
+lastOf xs = lastOr 0 xs
+
+-- "The target leaf of a key is the last chained leaf whose smallest key is at most that key; if there is none, block 0": some key of a
+-- leaf is at most k; the last leaf of a list that has one, or t; and the leaf before it, or p
+abbrev pub reachesTo : Leaf → ℕ → Bool
+reachesTo L k = not (eqb (countTo (atMost L k) (L .size)) 0)
+
+unfoldable pub targetFrom : (ℕ → Leaf) → ℕ → ℕ → List ℕ → ℕ
+targetFrom I k t [] = t
+targetFrom I k t (b ∷ bs) = targetFrom I k (cond (reachesTo (I b) k) b t) bs
+
+unfoldable pub beforeFrom : (ℕ → Leaf) → ℕ → ℕ → ℕ → List ℕ → ℕ
+beforeFrom I k p prev [] = p
+beforeFrom I k p prev (b ∷ bs) = beforeFrom I k (cond (reachesTo (I b) k) prev p) b bs
 
 -- The last leaf that reaches to the key, with the leaf before it; or none does.
 pub data Aim (I : ℕ → Leaf) (key : ℕ) (xs : List ℕ) (target before : ℕ) : Type 0 where
@@ -43,6 +58,8 @@ pub record Notes (I : ℕ → Leaf) (N key : ℕ) (xs : List ℕ) (st : State) :
   pub entries : st .entries ≡ entries I xs
   pub prev : st .prev ≡ lastOf xs
   pub aim : Aim I key xs (st .target) (st .before)
+  pub target : st .target ≡ targetFrom I key 0 xs
+  pub before : st .before ≡ beforeFrom I key 0 0 xs
   -- the largest key so far
   pub most : (j u : ℕ) → Has I xs j u → j ≤ st .last
   pub attained : (st .entries ≡ 0 → ⊥) → (u : ℕ) × Has I xs (st .last) u
@@ -53,10 +70,25 @@ pub record Notes (I : ℕ → Leaf) (N key : ℕ) (xs : List ℕ) (st : State) :
 
 -- ---- lists with one more
 
-last-more : (xs : List ℕ) (x : ℕ) → lastOf (xs ++ (x ∷ [])) ≡ x
-last-more [] x = refl
-last-more (y ∷ []) x = refl
-last-more (y ∷ z ∷ xs) x = last-more (z ∷ xs) x
+last-more : (p : ℕ) (xs : List ℕ) (x : ℕ) → lastOr p (xs ++ (x ∷ [])) ≡ x
+last-more p [] x = refl
+last-more p (y ∷ xs) x = last-more y xs x
+
+pick-not : (b : Bool) (x y : ℕ) → cond b x y ≡ cond (not b) y x
+pick-not true x y = refl
+pick-not false x y = refl
+
+target-more : (I : ℕ → Leaf) (k : ℕ) (xs : List ℕ) (t x : ℕ)
+    → targetFrom I k t (xs ++ (x ∷ [])) ≡ cond (reachesTo (I x) k) x (targetFrom I k t xs)
+unfolding targetFrom
+target-more I k [] t x = refl
+target-more I k (y ∷ xs) t x = target-more I k xs (cond (reachesTo (I y) k) y t) x
+
+before-more : (I : ℕ → Leaf) (k : ℕ) (xs : List ℕ) (p prev x : ℕ)
+    → beforeFrom I k p prev (xs ++ (x ∷ [])) ≡ cond (reachesTo (I x) k) (lastOr prev xs) (beforeFrom I k p prev xs)
+unfolding beforeFrom
+before-more I k [] p prev x = refl
+before-more I k (y ∷ xs) p prev x = before-more I k xs (cond (reachesTo (I y) k) prev p) y x
 
 entries-more : (I : ℕ → Leaf) (xs : List ℕ) (x : ℕ) → entries I (xs ++ (x ∷ [])) ≡ entries I xs + count (I x)
 unfolding sumOf
@@ -206,8 +238,12 @@ module _ (I : ℕ → Leaf) (N key : ℕ) (inside : (b s : ℕ) → Taken (I b) 
         walked = walk-on I N xs (st .at) (n .walked) s;
         leaves = omega (arith, n .leaves, length-append xs (st .at ∷ []));
         entries = omega (arith, n .entries, entries-more I xs (st .at));
-        prev = sym (last-more xs (st .at));
+        prev = sym (last-more 0 xs (st .at));
         aim = aimed;
+        target = pick-not (eqb reached 0) (st .target) (st .at) ∙ ap (cond (reachesTo L key) (st .at)) (n .target)
+            ∙ sym (target-more I key xs 0 (st .at));
+        before = pick-not (eqb reached 0) (st .before) (st .prev)
+            ∙ ap₂ (λ (x y : ℕ). cond (reachesTo L key) x y) (n .prev) (n .before) ∙ sym (before-more I key xs 0 0 (st .at));
         most = upper;
         attained = top;
         met-all = all-join (λ x. upd (st .met) (L .next) true x ≡ true) xs (st .at ∷ [])

@@ -22,7 +22,7 @@ use Rattle.image.specs.Walk.{Stands, Walked, Onward, walk-start, walk-begins, w
 use Rattle.survey.specs.Walk.{State, againBy, faultOf, judged, moved, stopped, walk, start, surveyed}
 use Rattle.survey.specs.Turns.{walk-stop}
 use Rattle.verdict.specs.Passed.{fault-passed, passed-fault, fault-number}
-use Rattle.verdict.specs.Notes.{Notes, nowhere, passed-stands, stands-passed, notes-on}
+use Rattle.verdict.specs.Notes.{Notes, nowhere, targetFrom, beforeFrom, passed-stands, stands-passed, notes-on}
 
 -- the walk goes on: the block at hand is a new one
 pub record Going (I : ℕ → Leaf) (N key : ℕ) (xs : List ℕ) (st : State) : Type 0 where
@@ -130,7 +130,7 @@ module _ (I : ℕ → Leaf) (N key : ℕ) (inside : (b s : ℕ) → Taken (I b) 
       on r (fails f h) ih = subst (Comes I N key (suc n) xs) (sym (walk-stop I N key n r (λ e. omega arith))) (fails f h)
 
   begin : Going I N key [] start
-  unfolding sumOf
+  unfolding sumOf targetFrom beforeFrom
   begin = record {
     notes = record {
       walked = walk-start I N;
@@ -138,6 +138,8 @@ module _ (I : ℕ → Leaf) (N key : ℕ) (inside : (b s : ℕ) → Taken (I b) 
       entries = refl;
       prev = refl;
       aim = nowhere (λ j u h. absurd h) refl;
+      target = refl;
+      before = refl;
       most = λ j u h. absurd h;
       attained = λ ne. absurd (ne refl);
       met-all = tt;
