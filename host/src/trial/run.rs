@@ -1,0 +1,265 @@
+//! One random run from a blank image: all calls, fills to refusal 6 and back to empty, whole and cut, beside a plain map
+//! (demand 2) and the tally of line writes (demand 3).
+use super::alike::scramble;
+use super::cuts::{Change, Depth, all_cuts, some_arrivals};
+use super::universe::Universe;
+use crate::answers::{LineWrites, Made, Recovered};
+use crate::calls::Calls;
+use crate::model::{Kind, Map, Tally};
+use crate::random::Random;
+use crate::reference::image::{Chained, entries, sound_chain};
+use crate::reference::memory::{Permitted, lines};
+use crate::reference::steps::{LIST_WORDS, first_steps, line_writes};
+
+/// What a run must have met, so that it cannot pass by missing it.
+#[derive(Clone, Copy, Debug, Default)]
+pub struct Met {
+    pub refused_full: u64,
+    pub emptied: u64,
+    pub freed: u64,
+    pub taken_again: u64,
+    pub splits: u64,
+    pub cut_images: u64,
+}
+
+#[derive(Clone, Copy, Debug, PartialEq, Eq)]
+enum Phase {
+    Filling,
+    Draining,
+    Mixing,
+}
+
+/// A run in progress.
+pub struct Run<'a> {
+    calls: &'a dyn Calls,
+    random: Random,
+    universe: Universe,
+    image: Vec<u8>,
+    map: Map,
+    pub tally: Tally,
+    phase: Phase,
+    left_in_phase: u64,
+    chained: Vec<bool>,
+    ever_freed: Vec<bool>,
+    pub met: Met,
+    /// All cuts are tried of one list in so many.
+    cuts_one_in: u64,
+    depth: Depth,
+}
+
+impl<'a> Run<'a> {
+    pub fn new(calls: &'a dyn Calls, random: Random, blocks: usize, universe: Universe) -> Run<'a> {
+        Run {
+            calls,
+            random,
+            universe,
+            image: vec![0; 256 * blocks],
+            map: Map::default(),
+            tally: Tally::default(),
+            phase: Phase::Filling,
+            left_in_phase: 30 * blocks as u64,
+            chained: (0..blocks).map(|block| block == 0).collect(),
+            ever_freed: vec![false; blocks],
+            met: Met::default(),
+            cuts_one_in: 64,
+            depth: Depth { most: 200, sample: 8 },
+        }
+    }
+
+    pub fn with_cuts(mut self, one_in: u64, depth: Depth) -> Run<'a> {
+        (self.cuts_one_in, self.depth) = (one_in, depth);
+        self
+    }
+
+    pub fn image(&self) -> &[u8] {
+        &self.image
+    }
+
+    /// One random call, checked in full.
+    pub fn call(&mut self) {
+        let kind = match self.random.below(10) {
+            0..6 => self.main_kind(),
+            6 => Kind::Put,
+            7 => Kind::Set,
+            8 => Kind::Del,
+            _ => return self.read(),
+        };
+        let key = self.key(kind);
+        let value = self.random.word();
+        self.change(kind, key, value);
+        self.next_phase();
+        if self.random.one_in(200) {
+            scramble(&mut self.image, &mut self.random);
+        }
+    }
+
+    fn main_kind(&mut self) -> Kind {
+        match self.phase {
+            Phase::Filling => Kind::Put,
+            Phase::Draining => Kind::Del,
+            Phase::Mixing => self.random.pick(&[Kind::Put, Kind::Set, Kind::Del]),
+        }
+    }
+
+    /// Mostly a key for which the call is accepted.
+    fn key(&mut self, kind: Kind) -> u64 {
+        let any = self.universe.key(&mut self.random);
+        if kind == Kind::Put || self.random.one_in(6) {
+            return any;
+        }
+        self.map.from(any).next().or(self.map.from(0).next()).map_or(any, |(key, _)| key)
+    }
+
+    /// Filling and draining by turns, with a mixed phase before every second draining, which goes on until all is gone.
+    fn next_phase(&mut self) {
+        self.left_in_phase = self.left_in_phase.saturating_sub(1);
+        let over = if self.phase == Phase::Draining { self.map.is_empty() } else { self.left_in_phase == 0 };
+        if !over {
+            return;
+        }
+        self.met.emptied += u64::from(self.phase == Phase::Draining);
+        self.phase = match self.phase {
+            Phase::Filling if self.met.emptied % 2 == 1 => Phase::Mixing,
+            Phase::Filling | Phase::Mixing => Phase::Draining,
+            Phase::Draining => Phase::Filling,
+        };
+        self.left_in_phase = 30 * self.image.len() as u64 / 256;
+    }
+
+    fn read(&mut self) {
+        match self.random.below(3) {
+            0 => {
+                let key = self.key(Kind::Set);
+                let found = self.calls.find(&self.image, key);
+                let expected = self.map.get(key).map_or((5, 0), |value| (0, value));
+                assert_eq!((found.answer, found.value), expected, "find {key}");
+            }
+            1 => self.list(),
+            _ => self.recover(),
+        }
+    }
+
+    fn list(&mut self) {
+        let from = if self.random.one_in(2) { 0 } else { self.universe.key(&mut self.random) };
+        let most = self.map.len() + 3;
+        let (mut keys, mut values) = (self.junk(most), self.junk(most));
+        let (keys_before, values_before) = (keys.clone(), values.clone());
+        let listed = self.calls.listing(&self.image, from, &mut keys, &mut values);
+        let room = keys.len().min(values.len());
+        let expected: Vec<(u64, u64)> = self.map.from(from).take(room).collect();
+        assert_eq!((listed.answer, listed.count), (0, expected.len() as u64), "listing from {from}");
+        assert!(expected.iter().copied().eq(keys.iter().copied().zip(values.iter().copied()).take(expected.len())));
+        assert_eq!(keys[expected.len()..], keys_before[expected.len()..], "keys past the count stay");
+        assert_eq!(values[expected.len()..], values_before[expected.len()..], "values past the count stay");
+    }
+
+    fn recover(&mut self) {
+        let chain = sound_chain(&self.image).expect("between calls the image is sound");
+        let blocks = self.image.len() / 256;
+        let [smallest_len, numbers_len] = [(); 2].map(|()| blocks - 1 + self.random.index(8).min(3));
+        let (mut smallest, mut numbers) = (vec![3; smallest_len], vec![5; numbers_len]);
+        let recovered = self.calls.recovery(&self.image, &mut smallest, &mut numbers);
+        let accepted = smallest_len >= blocks && numbers_len >= blocks;
+        let (answer, leaves, entries) = if accepted { (0, chain.len(), self.map.len()) } else { (8, 0, 0) };
+        assert_eq!(recovered, Recovered { answer, leaves: leaves as u64, entries: entries as u64 });
+        for (at, chained) in chain.iter().enumerate().take(leaves) {
+            let expected = chained.leaf.smallest().unwrap_or(0);
+            assert_eq!((smallest[at], numbers[at]), (expected, chained.block as u64), "recovery's leaf {at}");
+        }
+        assert!(smallest[leaves..].iter().all(|&word| word == 3) && numbers[leaves..].iter().all(|&word| word == 5));
+    }
+
+    /// A buffer of random length, at most so long, with random words.
+    fn junk(&mut self, most: usize) -> Vec<u64> {
+        let length = if self.random.one_in(2) { most } else { self.random.index(most + 1) };
+        let mut buffer = vec![0; length];
+        self.random.fill_words(&mut buffer);
+        buffer
+    }
+
+    fn change(&mut self, kind: Kind, key: u64, value: u64) {
+        let mut list = vec![0; LIST_WORDS + self.random.index(3)];
+        self.random.fill_words(&mut list);
+        let list_before = list.clone();
+        let made = match kind {
+            Kind::Put => self.calls.put(&self.image, &mut list, key, value),
+            Kind::Set => self.calls.set(&self.image, &mut list, key, value),
+            Kind::Del => self.calls.del(&self.image, &mut list, key),
+        };
+        let written = 2 * made.steps as usize;
+        assert_eq!(list[written..], list_before[written..], "words past the list stay");
+        let fits = match (kind, self.map.get(key)) {
+            (Kind::Put, Some(_)) => made.answer == 4,
+            (Kind::Put, None) => made.answer == 0 || made.answer == 6,
+            (_, Some(_)) => made.answer == 0,
+            (_, None) => made.answer == 5,
+        };
+        assert!(fits, "{kind:?} {key} answered {}", made.answer);
+        self.met.refused_full += u64::from(made.answer == 6);
+        if made.answer == 0 {
+            self.take(kind, key, value, &list, made);
+        } else {
+            assert_eq!(made, Made { answer: made.answer, ..Made::default() }, "a refusal tells 0 for every count");
+        }
+    }
+
+    /// Tries the cuts of an accepted list, then takes it whole or cut.
+    fn take(&mut self, kind: Kind, key: u64, value: u64, list: &[u64], made: Made) {
+        let before: Vec<(u64, u64)> = self.map.from(0).collect();
+        if self.random.one_in(self.cuts_one_in) {
+            self.try_all_cuts(kind, key, value, list, made);
+        }
+        if self.random.one_in(5) {
+            self.take_cut(list, made);
+        } else {
+            assert_eq!(self.calls.run(&mut self.image, list, made.steps), 0);
+            self.tally.whole(kind, LineWrites(made.line_writes));
+        }
+        let chain = sound_chain(&self.image).expect("a run or cut list leaves a sound image");
+        let left = entries(&chain);
+        if left != before {
+            apply(&mut self.map, kind, key, value);
+        }
+        assert!(self.map.is(&left), "{kind:?} {key}: the map after");
+        assert!(self.tally.slack() >= 0, "demand 3: {:?}", self.tally);
+        self.note_blocks(&chain);
+    }
+
+    fn try_all_cuts(&mut self, kind: Kind, key: u64, value: u64, list: &[u64], made: Made) {
+        let before: Vec<(u64, u64)> = self.map.from(0).collect();
+        let mut map_after = self.map.clone();
+        apply(&mut map_after, kind, key, value);
+        let after: Vec<(u64, u64)> = map_after.from(0).collect();
+        let change = Change { image: &self.image, list, steps: made.steps, before: &before, after: &after };
+        self.met.cut_images += all_cuts(self.calls, &change, self.depth, &mut self.random);
+    }
+
+    fn take_cut(&mut self, list: &[u64], made: Made) {
+        let n = self.random.below(made.steps + 1);
+        let taken = first_steps(list, n, self.image.len()).expect("a list of ours is well formed");
+        let arrivals = some_arrivals(&Permitted::after(&taken, lines(&self.image)), &mut self.random);
+        assert_eq!(self.calls.cut(&mut self.image, list, n, &arrivals), 0);
+        self.tally.cut(line_writes(&taken));
+    }
+
+    fn note_blocks(&mut self, chain: &[Chained]) {
+        let mut now = vec![false; self.chained.len()];
+        for chained in chain {
+            now[chained.block] = true;
+        }
+        for (block, (was, is)) in self.chained.iter().copied().zip(now.iter().copied()).enumerate() {
+            self.met.splits += u64::from(!was && is);
+            self.met.taken_again += u64::from(!was && is && self.ever_freed[block]);
+            self.met.freed += u64::from(was && !is);
+            self.ever_freed[block] |= was && !is;
+        }
+        self.chained = now;
+    }
+}
+
+fn apply(map: &mut Map, kind: Kind, key: u64, value: u64) {
+    match kind {
+        Kind::Put | Kind::Set => map.insert(key, value),
+        Kind::Del => map.remove(key),
+    }
+}
