@@ -31,11 +31,12 @@ pub record Surveyed (l : List ℕ) (key : ℕ) : Type 0 where
   pub chain : List ℕ
   pub sound : Sound (leaves l) (blocks l) chain
   pub notes : Notes (leaves l) (blocks l) key chain (surveyed (leaves l) (blocks l) key)
+  pub ended : surveyed (leaves l) (blocks l) key .at ≡ 0
 
 module _ (l : List ℕ) (key : ℕ) (fine : badImage (length l) ≡ false) where
   pub survey-sound : surveyed (leaves l) (blocks l) key .stage ≡ 1 → Surveyed l key
   survey-sound e =
-      let r = says-sound (leaves l) (blocks l) key (inside l) e in record { chain = r .0; sound = r .1; notes = r .2 }
+      let r = says-sound (leaves l) (blocks l) key (inside l) e in record { chain = r .0; sound = r .1; notes = r .2; ended = r .3 }
 
   pub sound-survey : SoundImage l → surveyed (leaves l) (blocks l) key .stage ≡ 1
   sound-survey S = sound-says (leaves l) (blocks l) key (inside l) ((good-length l fine) .some) (S .chain) (S .sound)

@@ -63,6 +63,13 @@ module _ (f : ℕ → Bool) where
             (record { from = omega arith; below = omega arith; passes = r .passes; first = λ t a b. r .first t (omega arith) b }))
       ]
 
+-- two tests that agree find the same slot
+pub lowest-same : (f g : ℕ → Bool) (n i : ℕ) → ((t : ℕ) → i ≤ t → t < i + n → f t ≡ g t) → lowest f n i ≡ lowest g n i
+unfolding lowest
+lowest-same f g zero i h = refl
+lowest-same f g (suc n) i h =
+    rw (h i (omega arith) (omega arith), lowest-same f g n (suc i) (λ t a b. h t (omega arith) (omega arith)))
+
 -- the lowest vacant slot
 pub vacant-at : (occ : ℕ → Bool) (n s : ℕ) → lowestVacant occ n ≡ At s → (s < n) × (occ s ≡ false) × ((t : ℕ) → t < s → occ t ≡ true)
 unfolding lowestVacant
@@ -230,3 +237,17 @@ module _ (f : ℕ → Bool) where
       (λ t q z. let r = count-some n (omega arith) in (r .0, omega (arith, r .1), r .2))
       refl
       h
+
+  pub count-all : (n : ℕ) → ((s : ℕ) → s < n → f s ≡ true) → countTo f n ≡ n
+  unfolding countTo
+  count-all zero h = refl
+  count-all (suc n) h = rw (h n (omega arith)) (omega (arith, count-all n (λ s b. h s (omega arith))))
+
+  pub count-less : (n s : ℕ) → s < n → f s ≡ false → countTo f n < n
+  unfolding countTo
+  count-less zero s b e = absurd (omega arith)
+  count-less (suc n) s b e =
+      elim (ℕ-discrete s n) [
+        | yes q ↦ let z : f n ≡ false = rw q at e in rw z (omega (arith, count-most n))
+        | no q ↦ omega (arith, count-less n s (omega arith) e, bit-most (f n))
+      ]

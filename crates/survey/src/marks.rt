@@ -1,10 +1,12 @@
 // A set of block numbers, one bit for each.
 use header::bits::get;
 use header::bits::replace;
+use leaf::search::Slot;
 ghost use mathlib.Core.Path.{_≡_};
-ghost use mathlib.Core.Bool.{false, true};
-ghost use Prim.Native.Nat.{_<_};
+ghost use mathlib.Core.Bool.{not};
+ghost use Prim.Native.Nat.{_≤_, _<_};
 ghost use Rattle.header.specs.Fields.{patched};
+ghost use Rattle.leaf.specs.Search.{lowest};
 ghost use Rattle.survey.specs.Marks.{setOf, isIn};
 
 pub struct Marks {
@@ -62,4 +64,19 @@ impl Marks {
         r.d = replace(self.d, block - 192, 1, 1);
         r
     }
+}
+
+// The lowest block that is not in the set, of n blocks; it stands in a `Slot`, as a slot's number would.
+pub fn lowest_out(marks: Marks, n: usize) -> Slot
+    requires { ⌜ n ≤ 256 ⌝ }
+    ensures { λ r. ⌜ r ≡ lowest (λ b. not (isIn (setOf marks) b)) n 0 ⌝ }
+{
+    let mut b = 0;
+    while b < n {
+        if !marks.has(b) {
+            return Slot::At(b);
+        }
+        b += 1;
+    }
+    Slot::Missing
 }

@@ -157,16 +157,19 @@ module _ (I : ℕ → Leaf) (N key : ℕ) (inside : (b s : ℕ) → Taken (I b) 
   unfolding surveyed
   whole = turns N [] start begin
 
-  pub says-sound : surveyed I N key .stage ≡ 1 → (xs : List ℕ) × Sound I N xs × Notes I N key xs (surveyed I N key)
+  pub says-sound : surveyed I N key .stage ≡ 1
+      → (xs : List ℕ) × Sound I N xs × Notes I N key xs (surveyed I N key) × (surveyed I N key .at ≡ 0)
   says-sound e = elim whole [
     | goes ys g f ↦ absurd (omega (arith, g .stage))
     | ends ys h ↦ chain ys h
     | fails f h ↦ absurd (omega arith)
   ]
     where
-      chain : (ys : List ℕ) → Ended I N key ys (surveyed I N key) → (xs : List ℕ) × Sound I N xs × Notes I N key xs (surveyed I N key)
+      chain : (ys : List ℕ) → Ended I N key ys (surveyed I N key)
+          → (xs : List ℕ) × Sound I N xs × Notes I N key xs (surveyed I N key) × (surveyed I N key .at ≡ 0)
       chain [] h = absurd (omega (arith, h .some))
-      chain (y ∷ ys) h = (y ∷ ys, walk-ends I N y ys (subst (λ (a : ℕ). Walked I N (y ∷ ys) a) (h .at) (h .notes .walked)), h .notes)
+      chain (y ∷ ys) h =
+          (y ∷ ys, walk-ends I N y ys (subst (λ (a : ℕ). Walked I N (y ∷ ys) a) (h .at) (h .notes .walked)), h .notes, h .at)
 
   pub sound-says : 0 < N → (bs : List ℕ) → Sound I N bs → surveyed I N key .stage ≡ 1
   sound-says pos bs S = elim whole [
