@@ -152,7 +152,7 @@ module _ (s t : Steps) where
   pub all-settled-cong : (rule : Rule) (n : ℕ) → Agree s t n → AllSettled rule s n → AllSettled rule t n
   all-settled-cong rule n h A i p v l e = settled-cong rule n i (line p) h (A i p v l (h i l ∙ e))
 
-  permitted-cong : (unit : ℕ → ℕ) → InLines unit → (rule : Rule) → Lawful rule → (n : ℕ) (a : ℕ → ℕ) → Agree s t n
+  pub permitted-cong : (unit : ℕ → ℕ) → InLines unit → (rule : Rule) → Lawful rule → (n : ℕ) (a : ℕ → ℕ) → Agree s t n
       → Permitted unit rule t n a → Permitted unit rule s n a
   permitted-cong unit W rule L n a h ok =
       arrives-permitted unit rule s n a (λ u. rw (made-cong unit n u h) (ok .most u))

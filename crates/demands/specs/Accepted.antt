@@ -1,0 +1,269 @@
+-- An accepted call has passed its table's rows; so the image is sound, the target leaf is the survey's, and the list made is one that
+-- `lists` serves.
+use mathlib.Core.Path.{_≡_, refl, sym, ap, _∙_, subst}
+use mathlib.Core.Bool.{Bool, true, false, cond, not}
+use mathlib.Core.List.{List, [], _∷_, _++_}
+use mathlib.Core.Logic.{_≢_}
+use mathlib.Core.Option.{Option, some, none}
+use Prim.Native.Nat.{ℕ, _*_, _^_, _≤_, _<_}
+use native.Mathlib.Omega.{arith}
+use borrow.Author.Tests.{ltb-false, eq-eqb, not-false, not-true}
+use lib.Dec.{ltb, eqb}
+use lib.ListN.{length}
+use Rattle.words.specs.Words.{reads}
+use Rattle.words.specs.WordLaws.{Bytes, word-small}
+use Rattle.words.specs.Bools.{both, by-test, differ, not-so}
+use Rattle.leaf.specs.Leaf.{Leaf, Taken, In, view}
+use Rattle.leaf.specs.Search.{slotOf, count}
+use Rattle.leaf.specs.SearchLaws.{slot-at, slot-missing, lowest-at}
+use Rattle.leaf.specs.declared.search.Slot.{Slot}
+use Rattle.leaf.specs.declared.search.Slot.the-variants.{At, Missing}
+use Rattle.steps.specs.declared.Step.{Step}
+use Rattle.steps.specs.Model.{rule01}
+use Rattle.steps.specs.Rules.{lawful01}
+use Rattle.steps.specs.Encoding.{written}
+use Rattle.steps.specs.Refusals.{badImage, row-passed}
+use Rattle.image.specs.Blocks.{view-size}
+use Rattle.image.specs.Chain.{All, Sound}
+use Rattle.image.specs.ChainLaws.{Good, all-split, sound-good}
+use Rattle.image.specs.Edits.{Absent}
+use Rattle.image.specs.Map.{Entry, lookup, putIn, without}
+use Rattle.image.specs.Entries.{listOf}
+use Rattle.image.specs.Answers.{valueAt}
+use Rattle.image.specs.Image.{blocks, leaves}
+use Rattle.image.specs.ImageLaws.{good-length}
+use Rattle.image.specs.Target.{Target}
+use Rattle.survey.specs.Walk.{surveyed}
+use Rattle.verdict.specs.Notes.{lastOr, lastOf}
+use Rattle.index.specs.Reading.{isSound, chainOf, entriesIn, isNone}
+use Rattle.index.specs.SoundTest.{survey-sound, sound-survey, test-sound, sound-chain, aim-target}
+use Rattle.lists.specs.Lists.{setList, delList}
+use Rattle.lists.specs.FullLists.{putList}
+use Rattle.lists.specs.Served.{Small, Served, linesOf}
+use Rattle.lists.specs.SetDel.{Behind, set-served, del-served}
+use Rattle.lists.specs.Put.{put-served}
+use Rattle.lists.specs.Sizes.{set-size, del-size, put-size}
+use Rattle.lists.specs.Bytes.{ServedBytes, served-bytes}
+use Rattle.writing.specs.Writing.{targetOf, beforeOf, placeOf, freeOf, isAmong, isMissing, isFull, blockOr0, Outcome, outcome, shortList, atSlot, setOf, delOf, putOf}
+use Rattle.writing.specs.ChangeLaws.{noted-target, noted-before, noted-value}
+use Rattle.writing.specs.PutLaws.{not-among}
+
+-- ---- what is known of a sound image and a key
+
+pub record Judged (l : List ℕ) (k : ℕ) : Type 0 where
+  pub front : List ℕ
+  pub behind : List ℕ
+  pub sound : Sound (leaves l) (blocks l) (front ++ (targetOf l k ∷ behind))
+  pub target : Target (leaves l) (targetOf l k) behind k
+  pub chain : chainOf l ≡ front ++ (targetOf l k ∷ behind)
+  pub before : targetOf l k ≢ 0 → Behind front (beforeOf l k)
+  pub value : valueAt (leaves l (targetOf l k)) (placeOf l k) ≡ lookup k (entriesIn l)
+
+snoc : (p x : ℕ) (xs : List ℕ) → Behind (x ∷ xs) (lastOr p (x ∷ xs))
+snoc p x [] = record { init = []; is = refl }
+snoc p x (y ∷ xs) = let r = snoc x y xs in record { init = x ∷ r .init; is = ap (λ (l : List ℕ). x ∷ l) (r .is) }
+
+last-of : (I : ℕ → Leaf) (N b : ℕ) (xs ys : List ℕ) → Sound I N (xs ++ (b ∷ ys)) → b ≢ 0 → Behind xs (lastOf xs)
+last-of I N b [] ys S ne = absurd (ne (S .starts))
+last-of I N b (x ∷ xs) ys S ne = snoc 0 x xs
+
+pub judged : (l : List ℕ) (k : ℕ) → badImage (length l) ≡ false → isSound l ≡ true → Judged l k
+judged l k fine so =
+    let e = sound-survey l k fine (test-sound l fine so) in
+    let s = survey-sound l k fine e in
+    let st = surveyed (leaves l) (blocks l) k in
+    let a = aim-target (leaves l) (blocks l) k (s .chain) (st .target) (st .before) (s .sound) (s .notes .aim) in
+    let t = noted-target l k fine e in
+    let q = subst (λ (b : ℕ). s .chain ≡ a .front ++ (b ∷ a .behind)) t (a .whole) in
+    let S = subst (Sound (leaves l) (blocks l)) q (s .sound) in
+    record {
+      front = a .front;
+      behind = a .behind;
+      sound = S;
+      target = subst (λ (b : ℕ). Target (leaves l) b (a .behind) k) t (a .target-is);
+      chain = sound-chain l (s .chain) fine (s .sound) ∙ q;
+      before = λ ne. subst (Behind (a .front)) (sym (a .before-is (λ z. ne (sym t ∙ z))) ∙ noted-before l k fine e)
+          (last-of (leaves l) (blocks l) (targetOf l k) (a .front) (a .behind) S ne);
+      value = noted-value l k fine e;
+    }
+
+module _ (l : List ℕ) (k : ℕ) (J : Judged l k) where
+  abbrev chain : List ℕ
+  chain = J .front ++ (targetOf l k ∷ J .behind)
+
+  pub judged-list : listOf (leaves l) chain ≡ entriesIn l
+  unfolding entriesIn
+  judged-list = ap (listOf (leaves l)) (sym (J .chain))
+
+words : (l : List ℕ) → Bytes l → Small (reads l)
+unfolding reads
+words l b p = word-small l (8 * p) b
+
+-- ---- an accepted call: the list made, and that it serves
+
+pub record Accepted (l list : List ℕ) (o : Outcome) (es : List Entry) (price : ℕ) : Type 0 where
+  pub made : List Step
+  pub chain : List ℕ
+  pub fine : badImage (length l) ≡ false
+  pub room : 112 ≤ length list
+  pub few : length made ≤ 56
+  pub lines : linesOf made ≤ 8
+  pub chain-is : chainOf l ≡ chain
+  pub before : listOf (leaves l) chain ≡ entriesIn l
+  pub served : ServedBytes rule01 l chain made es price
+  pub list-is : o .list ≡ written made list
+  pub steps-is : o .steps ≡ length made
+  pub lines-is : o .lines ≡ linesOf made
+
+-- the parts of an outcome whose answer is 0
+told-list : (n : ℕ) (t : List Step) (list : List ℕ) → n ≡ 0 → outcome n t list .list ≡ written t list
+told-list n t list e = ap (λ (b : Bool). cond b (written t list) list) (eq-eqb n 0 e)
+
+told-steps : (n : ℕ) (t : List Step) (list : List ℕ) → n ≡ 0 → outcome n t list .steps ≡ length t
+told-steps n t list e = ap (λ (b : Bool). cond b (length t) 0) (eq-eqb n 0 e)
+
+served-as : {w : ℕ → ℕ} {N : ℕ} {chain : List ℕ} {t : List Step} {es fs : List Entry} {price : ℕ} → es ≡ fs
+    → Served rule01 w N chain t es price → Served rule01 w N chain t fs price
+served-as {w} {N} {chain} {t} {es} {fs} {price} q S = subst (λ (x : List Entry). Served rule01 w N chain t x price) q S
+
+told-lines : (n : ℕ) (t : List Step) (list : List ℕ) → n ≡ 0 → outcome n t list .lines ≡ linesOf t
+told-lines n t list e = ap (λ (b : Bool). cond b (linesOf t) 0) (eq-eqb n 0 e)
+
+module _ (l : List ℕ) (bytes : Bytes l) (fine : badImage (length l) ≡ false) where
+  in-bytes : (chain : List ℕ) (t : List Step) (es : List Entry) (price : ℕ) → Served rule01 (reads l) (blocks l) chain t es price → ServedBytes rule01 l chain t es price
+  in-bytes chain t es price S = served-bytes rule01 l chain t es price ((good-length l fine) .whole) bytes S
+
+is-full : (w : ℕ → ℕ) (b : ℕ) → count (view w b) ≡ 14 → isFull (view w b) ≡ true
+is-full w b e = eq-eqb (count (view w b)) (view w b .size) (e ∙ sym (view-size w b))
+
+-- the slot of a key that is there
+record Held (l : List ℕ) (k : ℕ) : Type 0 where
+  slot : ℕ
+  at : placeOf l k ≡ At slot
+  taken : Taken (leaves l (targetOf l k)) slot
+  key : leaves l (targetOf l k) .key slot ≡ k
+
+held : (l : List ℕ) (k : ℕ) → Judged l k → isNone (lookup k (entriesIn l)) ≡ false → Held l k
+held l k J e = go (placeOf l k) refl (ap isNone (J .value) ∙ e)
+  where
+    go : (x : Slot) → placeOf l k ≡ x → isNone (valueAt (leaves l (targetOf l k)) x) ≡ false → Held l k
+    go (At s) q z =
+        let r = slot-at (leaves l (targetOf l k)) k s q in record { slot = s; at = q; taken = r .1 .taken; key = r .1 .key }
+    go Missing q z = differ z
+
+module _ (l list : List ℕ) (k : ℕ) (bytes : Bytes l) where
+  module _ (n : ℕ) (rest : ℕ) (is : n ≡ cond (badImage (length l)) 1 (cond (shortList list) 2 (cond (not (isSound l)) 3 rest))) (zero : n ≡ 0) where
+    rows : (badImage (length l) ≡ false) × (112 ≤ length list) × (isSound l ≡ true) × (rest ≡ 0)
+    rows =
+        let a = row-passed 1 (badImage (length l)) (cond (shortList list) 2 (cond (not (isSound l)) 3 rest)) (omega arith) (sym is ∙ zero) in
+        let b = row-passed 2 (shortList list) (cond (not (isSound l)) 3 rest) (omega arith) (a .1) in
+        let c = row-passed 3 (not (isSound l)) rest (omega arith) (b .1) in
+        (a .0, ltb-false (length list) 112 (b .0), not-false (isSound l) (c .0), c .1)
+
+  pub set-accepted : (v : ℕ) → v < 2 ^ 64 → setOf l list k v .answer ≡ 0 → Accepted l list (setOf l list k v) (putIn k v (entriesIn l)) 7
+  unfolding setOf
+  set-accepted v small e =
+      let r = rows _ _ refl e in
+      let J = judged l k (r .0) (r .2) in
+      let h = held l k J (row-passed 5 (isNone (lookup k (entriesIn l))) 0 (omega arith) (r .3) .0) in
+      let b = targetOf l k in
+      let z = good-length l (r .0) in
+      let q = ap (λ (x : Slot). atSlot x (λ s. setList b s v)) (h .at) in
+      record {
+        made = setList b (h .slot) v;
+        chain = J .front ++ (b ∷ J .behind);
+        fine = r .0;
+        room = r .1;
+        few = omega (arith, set-size b (h .slot) v .0);
+        lines = omega (arith, set-size b (h .slot) v .1);
+        chain-is = J .chain;
+        before = judged-list l k J;
+        served = in-bytes l bytes (r .0) _ _ _ 7 (served-as
+            (λ i. putIn (h .key i) v (judged-list l k J i))
+            (set-served rule01 lawful01 (reads l) (words l bytes) (blocks l) (z .some) (J .front) b (J .behind) (J .sound) (h .slot) (h .taken) v small));
+        list-is = told-list _ _ list e ∙ ap (λ (t : List Step). written t list) q;
+        steps-is = told-steps _ (atSlot (placeOf l k) (λ s. setList b s v)) list e ∙ ap length q;
+        lines-is = told-lines _ (atSlot (placeOf l k) (λ s. setList b s v)) list e ∙ ap linesOf q;
+      }
+
+  pub del-accepted : delOf l list k .answer ≡ 0 → Accepted l list (delOf l list k) (without k (entriesIn l)) 7
+  unfolding delOf
+  del-accepted e =
+      let r = rows _ _ refl e in
+      let J = judged l k (r .0) (r .2) in
+      let h = held l k J (row-passed 5 (isNone (lookup k (entriesIn l))) 0 (omega arith) (r .3) .0) in
+      let b = targetOf l k in
+      let z = good-length l (r .0) in
+      let q = ap (λ (x : Slot). atSlot x (λ s. delList (reads l) (beforeOf l k) b s)) (h .at) in
+      record {
+        made = delList (reads l) (beforeOf l k) b (h .slot);
+        chain = J .front ++ (b ∷ J .behind);
+        fine = r .0;
+        room = r .1;
+        few = omega (arith, del-size (reads l) (beforeOf l k) b (h .slot) .0);
+        lines = omega (arith, del-size (reads l) (beforeOf l k) b (h .slot) .1);
+        chain-is = J .chain;
+        before = judged-list l k J;
+        served = in-bytes l bytes (r .0) _ _ _ 7 (served-as
+            (λ i. without (h .key i) (judged-list l k J i))
+            (del-served rule01 lawful01 (reads l) (words l bytes) (blocks l) (z .some) (J .front) (beforeOf l k) b (J .behind) (J .sound) (J .before) (h .slot) (h .taken)));
+        list-is = told-list _ _ list e ∙ ap (λ (t : List Step). written t list) q;
+        steps-is = told-steps _ (atSlot (placeOf l k) (λ s. delList (reads l) (beforeOf l k) b s)) list e ∙ ap length q;
+        lines-is = told-lines _ (atSlot (placeOf l k) (λ s. delList (reads l) (beforeOf l k) b s)) list e ∙ ap linesOf q;
+      }
+
+  -- a key that is not there is in no slot of its target leaf
+  missing : Judged l k → isNone (lookup k (entriesIn l)) ≡ true → Absent (leaves l (targetOf l k)) k
+  missing J e u i = go (placeOf l k) refl (ap isNone (J .value) ∙ e)
+    where
+      g : Good (leaves l) (blocks l) (targetOf l k)
+      g = all-split (Good (leaves l) (blocks l)) (J .front) (targetOf l k ∷ J .behind) (sound-good (leaves l) (blocks l) (J .sound)) .1 .0
+
+      go : (x : Slot) → placeOf l k ≡ x → isNone (valueAt (leaves l (targetOf l k)) x) ≡ true → ⊥
+      go (At s) q z = differ (sym z)
+      go Missing q z = slot-missing (leaves l (targetOf l k)) (g .right) k q (i .at) (i .taken) (i .key-is)
+
+  -- a full target leaf has a free block
+  spare : (J : Judged l k) → both (isFull (leaves l (targetOf l k))) (isMissing (freeOf l)) ≡ false → count (leaves l (targetOf l k)) ≡ 14
+      → (blockOr0 (freeOf l) < blocks l) × All (λ x. x ≢ blockOr0 (freeOf l)) (J .front ++ (targetOf l k ∷ J .behind))
+  spare J e full = go (freeOf l) refl (sym (ap (λ (b : Bool). both b (isMissing (freeOf l))) (is-full (reads l) (targetOf l k) full)) ∙ e)
+    where
+      go : (x : Slot) → freeOf l ≡ x → isMissing x ≡ false
+          → (blockOr0 x < blocks l) × All (λ y. y ≢ blockOr0 x) (J .front ++ (targetOf l k ∷ J .behind))
+      go (At c) q z =
+          let r = lowest-at (λ b. not (isAmong b (chainOf l))) (blocks l) 0 c q in (
+            omega (arith, r .below),
+            subst (λ (bs : List ℕ). All (λ y. y ≢ c) bs) (J .chain) (not-among c (chainOf l) (not-true (isAmong c (chainOf l)) (r .passes))),
+          )
+      go Missing q z = differ z
+
+  pub put-accepted : (v : ℕ) → k < 2 ^ 64 → v < 2 ^ 64 → putOf l list k v .answer ≡ 0
+      → Accepted l list (putOf l list k v) (putIn k v (entriesIn l)) 20
+  unfolding putOf
+  put-accepted v key small e =
+      let r = rows _ _ refl e in
+      let J = judged l k (r .0) (r .2) in
+      let b = targetOf l k in
+      let z = good-length l (r .0) in
+      let c = blockOr0 (freeOf l) in
+      let p = row-passed 4 (not (isNone (lookup k (entriesIn l)))) (cond (both (isFull (leaves l b)) (isMissing (freeOf l))) 6 0) (omega arith) (r .3) in
+      let f = row-passed 6 (both (isFull (leaves l b)) (isMissing (freeOf l))) 0 (omega arith) (p .1) .0 in
+      record {
+        made = putList (reads l) b c k v;
+        chain = J .front ++ (b ∷ J .behind);
+        fine = r .0;
+        room = r .1;
+        few = put-size (reads l) b c k v .0;
+        lines = put-size (reads l) b c k v .1;
+        chain-is = J .chain;
+        before = judged-list l k J;
+        served = in-bytes l bytes (r .0) _ _ _ 20 (served-as
+            (ap (putIn k v) (judged-list l k J))
+            (put-served rule01 lawful01 (reads l) (words l bytes) (blocks l) (z .some) (z .most) (J .front) b c (J .behind) (J .sound) k v key small
+            (J .target)
+            (missing J (not-false (isNone (lookup k (entriesIn l))) (p .0)))
+            (spare J f)));
+        list-is = told-list _ _ list e;
+        steps-is = told-steps _ (putList (reads l) b c k v) list e;
+        lines-is = told-lines _ (putList (reads l) b c k v) list e;
+      }

@@ -1,0 +1,5 @@
+-- To believe: Writing (what put, set and del answer and make). Proved of it: BlockLaws, ChangeLaws.
+pub mod Writing
+pub mod BlockLaws
+pub mod ChangeLaws
+pub mod PutLaws
