@@ -1,5 +1,5 @@
 -- Each answer of find, from the tests that led to it.
-use mathlib.Core.Path.{_≡_, refl, sym, ap, _∙_, subst}
+use mathlib.Core.Path.{_≡_, refl, sym, ap, _∙_}
 use mathlib.Core.Bool.{Bool, true, false, cond, not}
 use mathlib.Core.List.{List, [], _∷_, _++_}
 use mathlib.Core.Option.{Option, some, none}
@@ -11,14 +11,13 @@ use Rattle.leaf.specs.Search.{slotOf}
 use Rattle.leaf.specs.declared.search.Slot.{Slot}
 use Rattle.leaf.specs.declared.search.Slot.the-variants.{At, Missing}
 use Rattle.steps.specs.Refusals.{answer, badImage}
-use Rattle.image.specs.Chain.{Sound}
 use Rattle.image.specs.Map.{lookup}
 use Rattle.image.specs.Entries.{listOf}
 use Rattle.image.specs.Answers.{valueAt, find-lookup}
 use Rattle.image.specs.Image.{blocks, leaves}
 use Rattle.survey.specs.Walk.{surveyed}
 use Rattle.index.specs.Reading.{isSound, entriesIn, Told, told, foundAs, isNone, valueOr0, findOf}
-use Rattle.index.specs.SoundTest.{Surveyed, survey-sound, says-yes, says-no, sound-chain, Aimed, aim-target}
+use Rattle.index.specs.SoundTest.{says-yes, says-no, noted-target}
 use Rattle.index.specs.declared.find.Found.{Found}
 use Rattle.index.specs.declared.find.Found.the-variants.{Value, BadImage, Unsound, Absent}
 
@@ -37,11 +36,9 @@ pub noted-lookup : (l : List ℕ) (k : ℕ) → badImage (length l) ≡ false �
     → let b = surveyed (leaves l) (blocks l) k .target in valueAt (leaves l b) (slotOf (leaves l b) k) ≡ lookup k (entriesIn l)
 unfolding entriesIn
 noted-lookup l k fine e =
-    let s = survey-sound l k fine e in
-    let st = surveyed (leaves l) (blocks l) k in
-    let a = aim-target (leaves l) (blocks l) k (s .chain) (st .target) (st .before) (s .sound) (s .notes .aim) in
-    find-lookup (leaves l) (blocks l) (a .front) (st .target) (a .behind) (subst (Sound (leaves l) (blocks l)) (a .whole) (s .sound)) k (a .target-is)
-    ∙ ap (λ (bs : List ℕ). lookup k (listOf (leaves l) bs)) (sym (a .whole) ∙ sym (sound-chain l (s .chain) fine (s .sound)))
+    let t = noted-target l k fine e in
+    find-lookup (leaves l) (blocks l) (t .front) (surveyed (leaves l) (blocks l) k .target) (t .behind) (t .sound) k (t .target-is)
+    ∙ ap (λ (bs : List ℕ). lookup k (listOf (leaves l) bs)) (sym (t .whole))
 
 module _ (l : List ℕ) (k : ℕ) where
   pub find-bad : badImage (length l) ≡ true → foundAs BadImage ≡ findOf l k

@@ -1,4 +1,8 @@
--- To believe: Reading (what find, listing and recovery answer). Proved of it: SoundTest, FindLaws.
+-- To believe: Reading (what find, listing and recovery answer). Proved of it: the others.
 pub mod Reading
 pub mod SoundTest
 pub mod FindLaws
+pub mod Filling
+pub mod Along
+pub mod ListingLaws
+pub mod RecoveryLaws

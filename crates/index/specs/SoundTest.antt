@@ -7,12 +7,13 @@ use Prim.Native.Nat.{ℕ, zero, suc, _+_, _*_, _≤_, _<_}
 use native.Mathlib.Omega.{arith}
 use borrow.Author.Tests.{eq-eqb, ne-eqb, eqb-true}
 use lib.Dec.{eqb}
-use lib.ListN.{length}
+use lib.ListN.{length, length-append}
 use Rattle.words.specs.Words.{reads}
 use Rattle.leaf.specs.Leaf.{Leaf, Taken}
 use Rattle.steps.specs.Refusals.{badImage}
 use Rattle.image.specs.Chain.{All, Links, Sound}
-use Rattle.image.specs.ChainSize.{chain-short, sound-later}
+use Rattle.image.specs.ChainLaws.{all-split, links-split}
+use Rattle.image.specs.ChainSize.{Later, chain-short, chain-near, sound-later}
 use Rattle.image.specs.Image.{blocks, leaves, SoundImage}
 use Rattle.image.specs.ImageLaws.{good-length}
 use Rattle.image.specs.Blocks.{view-slot, view-size}
@@ -105,6 +106,48 @@ aim-target I N key (b ∷ bs) target before S (here ys zs e p r f) = record {
   target-is = record { low = inr r; high = f };
   before-is = λ ne. p;
 }
+
+later-part : (front : List ℕ) (b : ℕ) (behind : List ℕ) → Later (front ++ (b ∷ behind)) → All (λ x. x ≢ 0) behind
+later-part [] b behind h = h
+later-part (x ∷ xs) b behind h = (all-split (λ y. y ≢ 0) xs (b ∷ behind) h) .1 .1
+
+-- the way from a chained block on is the rest of the chain
+chain-ahead : (l : List ℕ) (front : List ℕ) (b : ℕ) (behind : List ℕ) → badImage (length l) ≡ false
+    → Sound (leaves l) (blocks l) (front ++ (b ∷ behind)) → chainFrom (leaves l) (blocks l) b ≡ b ∷ behind
+chain-ahead l front b behind fine S =
+    let short = chain-short (leaves l) (blocks l) (front ++ (b ∷ behind)) S ((good-length l fine) .some) in
+    chain-is (leaves l) (blocks l) b behind
+    (later-part front b behind (sound-later (leaves l) (blocks l) (front ++ (b ∷ behind)) S))
+    ((links-split (leaves l) 0 front (b ∷ behind) 0 (S .links)) .2 .1)
+    (omega (arith, length-append front (b ∷ behind)))
+
+-- the chain of a sound image around the block b that a survey for the key has noted
+pub record Around (l : List ℕ) (key b : ℕ) : Type 0 where
+  pub front : List ℕ
+  pub behind : List ℕ
+  pub sound : Sound (leaves l) (blocks l) (front ++ (b ∷ behind))
+  pub whole : chainOf l ≡ front ++ (b ∷ behind)
+  pub target-is : Target (leaves l) b behind key
+  pub ahead : chainFrom (leaves l) (blocks l) b ≡ b ∷ behind
+  pub near : All (λ c. c < blocks l) (b ∷ behind)
+
+pub noted-target : (l : List ℕ) (key : ℕ) → badImage (length l) ≡ false → surveyed (leaves l) (blocks l) key .stage ≡ 1
+    → Around l key (surveyed (leaves l) (blocks l) key .target)
+noted-target l key fine e =
+    let s = survey-sound l key fine e in
+    let st = surveyed (leaves l) (blocks l) key in
+    let a = aim-target (leaves l) (blocks l) key (s .chain) (st .target) (st .before) (s .sound) (s .notes .aim) in
+    let S = subst (Sound (leaves l) (blocks l)) (a .whole) (s .sound) in
+    let near = chain-near (leaves l) (blocks l) (a .front ++ (st .target ∷ a .behind)) S ((good-length l fine) .some) in
+    record {
+      front = a .front;
+      behind = a .behind;
+      sound = S;
+      whole = sound-chain l (s .chain) fine (s .sound) ∙ a .whole;
+      target-is = a .target-is;
+      ahead = chain-ahead l (a .front) (st .target) (a .behind) fine S;
+      near = (all-split (λ c. c < blocks l) (a .front) (st .target ∷ a .behind) near) .1;
+    }
 
 -- ---- bounds that the code asks for
 

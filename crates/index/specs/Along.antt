@@ -1,0 +1,40 @@
+-- The chain as the loops go along it, one block at a time: `chainFrom` with a turn fewer.
+use mathlib.Core.Path.{_≡_, sym, ap, _∙_, subst}
+use mathlib.Core.Bool.{Bool, cond}
+use mathlib.Core.List.{List, [], _∷_, _++_}
+use mathlib.Core.Logic.{_≢_}
+use Prim.Native.Nat.{ℕ, zero, suc, _+_, _-_, _≤_, _<_}
+use native.Mathlib.Omega.{arith}
+use borrow.Author.Tests.{eq-eqb, ne-eqb}
+use lib.Dec.{eqb}
+use Rattle.leaf.specs.Leaf.{Leaf}
+use Rattle.image.specs.Chain.{All}
+use Rattle.index.specs.Reading.{chainFrom}
+
+pub chain-whole : (I : ℕ → Leaf) (N b : ℕ) → chainFrom I (N - 0) b ≡ chainFrom I N b
+chain-whole I N b = let q : N - 0 ≡ N = omega arith in rw q
+
+module _ (I : ℕ → Leaf) (N i b : ℕ) where
+  pub chain-on : i < N → I b .next ≢ 0 → chainFrom I (N - i) b ≡ b ∷ chainFrom I (N - (i + 1)) (I b .next)
+  unfolding chainFrom
+  chain-on h nz = let q : N - i ≡ suc (N - (i + 1)) = omega arith in rw (q, ne-eqb (I b .next) 0 nz)
+
+  pub chain-last : i < N → I b .next ≡ 0 → chainFrom I (N - i) b ≡ b ∷ []
+  unfolding chainFrom
+  chain-last h z = let q : N - i ≡ suc (N - (i + 1)) = omega arith in rw (q, eq-eqb (I b .next) 0 z)
+
+  pub chain-over : N ≤ i → chainFrom I (N - i) b ≡ []
+  unfolding chainFrom
+  chain-over h = let q : N - i ≡ 0 = omega arith in rw q
+
+  -- the blocks still to come are of the image
+  abbrev pub Near : Type 0
+  Near = All (λ c. c < N) (chainFrom I (N - i) b)
+
+  pub near-here : i < N → Near → b < N
+  unfolding chainFrom
+  near-here h n = let q : N - i ≡ suc (N - (i + 1)) = omega arith in (rw q at n) .0
+
+pub near-next : (I : ℕ → Leaf) (N i b c : ℕ) → i < N → c ≡ I b .next → c ≢ 0 → Near I N i b → Near I N (i + 1) c
+near-next I N i b c h e nz n =
+    rw e ((subst (All (λ x. x < N)) (chain-on I N i b h (λ z. nz (e ∙ z))) n) .1)
