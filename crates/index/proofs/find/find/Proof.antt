@@ -1,4 +1,5 @@
 use borrow.Author.Needs.{needs}
+use native.Mathlib.Omega.{arith}
 use mathlib.Core.Path.{_≡_, sym, ap, _∙_}
 use denote.Ref.{now}
 use Prim.Native.Nat.{ℕ, _<_}
@@ -17,8 +18,11 @@ find-in-requires c κs =
     let b = s .before .before in
     let a = b .before .before .args in
     let fine = sym (b .bad-image .ensures) ∙ s .before .if1 .left in
-    block-inside (now (a .image)) (s .survey .result .target) fine
-    (rw (ap (λ (st : State). st .target) (s .survey .ensures)) ((noted-bounds (now (a .image)) (a .key) fine) .target))
+    omega (
+      arith,
+      block-inside (now (a .image)) (s .survey .result .target) fine
+          (rw (ap (λ (st : State). st .target) (s .survey .ensures)) ((noted-bounds (now (a .image)) (a .key) fine) .target)),
+    )
 
 returns-3 : tie.Need-returns-3
 returns-3 c =
