@@ -22,7 +22,7 @@ use Rattle.index.specs.declared.find.Found.{Found}
 use Rattle.index.specs.declared.find.Found.the-variants.{Value, BadImage, Unsound, Absent}
 
 -- the answer by the three tests
-abbrev findBy : Bool → Bool → Option ℕ → Told
+abbrev pub findBy : Bool → Bool → Option ℕ → Told
 findBy bad sound v =
     let n = answer ((1, bad) ∷ (3, not sound) ∷ (5, isNone v) ∷ []) in told n (cond (eqb n 0) (valueOr0 v) 0)
 

@@ -144,7 +144,7 @@ module _ (l : List ℕ) (from : ℕ) (fine : badImage (length l) ≡ false) (sou
       ∙ ap (λ (bs : List ℕ). startingAt from (listOf (leaves l) bs)) (sym (t .whole))
 
 -- the answer by the two tests
-abbrev listingBy : Bool → Bool → List Entry → List ℕ → List ℕ → Listing
+abbrev pub listingBy : Bool → Bool → List Entry → List ℕ → List ℕ → Listing
 listingBy bad sound es ks vs =
     let n = answer ((1, bad) ∷ (3, not sound) ∷ []) in
     cond (eqb n 0) (listingIs (counted n (length es)) (over (map (λ e. e .key) es) ks) (over (map (λ e. e .val) es) vs))

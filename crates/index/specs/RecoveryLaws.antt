@@ -111,8 +111,8 @@ not-short N a b e = by-test (λ t. ltb a N ≡ t → (t || ltb b N) ≡ false �
 
 module _ (l : List ℕ) (ks vs : List ℕ) where
   -- the answer by the three tests and the entries
-  abbrev by : Bool → Bool → Bool → ℕ → Recovery
-  by bad short sound m =
+  abbrev pub recoveryBy : Bool → Bool → Bool → ℕ → Recovery
+  recoveryBy bad short sound m =
       let n = answer ((1, bad) ∷ (8, short) ∷ (3, not sound) ∷ []) in
       cond (eqb n 0)
       (recoveryIs (sizes n (length (chainOf l)) m) (over (map (λ b. smallestOf (leaves l b)) (chainOf l)) ks) (over (chainOf l) vs))
@@ -123,16 +123,16 @@ module _ (l : List ℕ) (ks vs : List ℕ) where
 
   pub recovery-bad : badImage (length l) ≡ true → recoveryIs (recoveredAs BadImage) ks vs ≡ recoveryOf l ks vs
   unfolding recoveryOf
-  recovery-bad e = λ i. by (sym e i) short (isSound l) (length (entriesIn l))
+  recovery-bad e = λ i. recoveryBy (sym e i) short (isSound l) (length (entriesIn l))
 
   pub recovery-short : badImage (length l) ≡ false → short ≡ true → recoveryIs (recoveredAs ShortBuffer) ks vs ≡ recoveryOf l ks vs
   unfolding recoveryOf
-  recovery-short fine e = λ i. by (sym fine i) (sym e i) (isSound l) (length (entriesIn l))
+  recovery-short fine e = λ i. recoveryBy (sym fine i) (sym e i) (isSound l) (length (entriesIn l))
 
   module _ (fine : badImage (length l) ≡ false) (wide : short ≡ false) where
     pub recovery-unsound : (surveyed (leaves l) (blocks l) 0 .stage ≡ 1 → ⊥) → recoveryIs (recoveredAs Unsound) ks vs ≡ recoveryOf l ks vs
     unfolding recoveryOf
-    recovery-unsound ne = λ i. by (sym fine i) (sym wide i) (sym (says-no l 0 fine ne) i) (length (entriesIn l))
+    recovery-unsound ne = λ i. recoveryBy (sym fine i) (sym wide i) (sym (says-no l 0 fine ne) i) (length (entriesIn l))
 
     pub recovery-done : surveyed (leaves l) (blocks l) 0 .stage ≡ 1 → (n m : ℕ) (ks' vs' : List ℕ)
         → m ≡ surveyed (leaves l) (blocks l) 0 .entries
@@ -143,4 +143,4 @@ module _ (l : List ℕ) (ks vs : List ℕ) where
         let room = not-short (blocks l) (length ks) (length vs) wide in
         let whole = is ∙ leads-fill (leaves l) (blocks l) (chainOf l) ks vs (chain-fits l fine e) (room .0) (room .1) in
         ap (λ (x : Buffers). recoveryIs (sizes 0 (x .used) m) (x .keys) (x .values)) whole
-        ∙ (λ i. by (sym fine i) (sym wide i) (sym (says-yes l 0 fine e) i) ((q ∙ entries-told l fine e) i))
+        ∙ (λ i. recoveryBy (sym fine i) (sym wide i) (sym (says-yes l 0 fine e) i) ((q ∙ entries-told l fine e) i))
