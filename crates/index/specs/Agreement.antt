@@ -1,7 +1,7 @@
--- On a sound image the three calls agree with its map: find gives the value of a key, listing the entries from a key on, strictly
--- rising, and recovery the leaves of the chain.
+-- On a sound image the three calls agree with its map: find gives the value of a key, listing the entries from a key on,
+-- strictly rising, and recovery the leaves of the chain.
 use mathlib.Core.Path.{_≡_, refl, sym, ap, _∙_, subst}
-use mathlib.Core.Bool.{Bool, true, false}
+use mathlib.Core.Bool.{true, false, not}
 use mathlib.Core.List.{List, [], _∷_, map}
 use mathlib.Core.Option.{Option, some, none}
 use Prim.Native.Nat.{ℕ, zero, suc, _≤_}
@@ -14,10 +14,11 @@ use Rattle.image.specs.Entries.{listOf, chain-lists}
 use Rattle.image.specs.Image.{blocks, leaves, SoundImage, mapOf}
 use Rattle.index.specs.Reading.{chainOf, entriesIn, Told, told, findOf, over, counted, listingIs, listed, listingOf}
 use Rattle.index.specs.Reading.{sizes, recoveryIs, isShort, recoveryOf}
+use Rattle.index.specs.Rows.{row-passed}
 use Rattle.index.specs.SoundTest.{sound-test, sound-chain}
 use Rattle.index.specs.FindLaws.{findBy}
-use Rattle.index.specs.ListingLaws.{listingBy}
-use Rattle.index.specs.RecoveryLaws.{recoveryBy}
+use Rattle.index.specs.ListingLaws.{listingOn}
+use Rattle.index.specs.RecoveryLaws.{recoveryOn}
 
 -- what find answers where the map has this value, or none
 abbrev pub foundIn : Option ℕ → Told
@@ -44,13 +45,16 @@ module _ (l : List ℕ) (fine : badImage (length l) ≡ false) (S : SoundImage l
       ≡ listingIs (counted 0 (length (listed l from ks vs))) (over (map (λ e. e .key) (listed l from ks vs)) ks)
       (over (map (λ e. e .val) (listed l from ks vs)) vs)
   unfolding listingOf
-  listing-accepted from ks vs = λ i. listingBy (fine i) (sound-test l fine S i) (listed l from ks vs) ks vs
+  listing-accepted from ks vs =
+      ap (listingOn (listed l from ks vs) ks vs) (row-passed 1 _ fine ∙ row-passed 3 0 (ap not (sound-test l fine S)))
 
   pub recovery-accepted : (ks vs : List ℕ) → isShort (blocks l) (length ks) (length vs) ≡ false → recoveryOf l ks vs
-      ≡ recoveryIs (sizes 0 (length (chainOf l)) (length (entriesIn l))) (over (map (λ b. smallestOf (leaves l b)) (chainOf l)) ks)
-      (over (chainOf l) vs)
+      ≡ recoveryIs (sizes 0 (length (chainOf l)) (length (entriesIn l)))
+      (over (map (λ b. smallestOf (leaves l b)) (chainOf l)) ks) (over (chainOf l) vs)
   unfolding recoveryOf
-  recovery-accepted ks vs wide = λ i. recoveryBy l ks vs (fine i) (wide i) (sound-test l fine S i) (length (entriesIn l))
+  recovery-accepted ks vs wide =
+      ap (recoveryOn l ks vs (length (entriesIn l)))
+      (row-passed 1 _ fine ∙ row-passed 8 _ wide ∙ row-passed 3 0 (ap not (sound-test l fine S)))
 
   -- ---- the map
 

@@ -1,6 +1,7 @@
--- "Two sound images alike in length, chain, occupied slots and entries give equal find, listing, recovery answers and refusals."
+-- "Two sound images alike in length, chain, occupied slots and entries give equal find, listing, recovery answers and
+-- refusals."
 use mathlib.Core.Path.{_≡_, refl, sym, ap, _∙_}
-use mathlib.Core.Bool.{Bool, true, false}
+use mathlib.Core.Bool.{true, false}
 use mathlib.Core.List.{List, [], _∷_, map}
 use Prim.Native.Nat.{ℕ, _/_, min}
 use lib.ListN.{length, take}
@@ -58,7 +59,8 @@ module _ (l m : List ℕ) (a : Alike l m) (fine : badImage (length l) ≡ false)
 
   find-same : (k : ℕ) → findOf m k ≡ findOf l k
   find-same k =
-      find-accepted m fine-too second k ∙ ap (λ (es : List Entry). foundIn (lookup k es)) same-entries ∙ sym (find-accepted l fine first k)
+      find-accepted m fine-too second k ∙ ap (λ (es : List Entry). foundIn (lookup k es)) same-entries
+      ∙ sym (find-accepted l fine first k)
 
   listing-same : (from : ℕ) (ks vs : List ℕ) → listingOf m from ks vs ≡ listingOf l from ks vs
   listing-same from ks vs =
@@ -77,7 +79,8 @@ module _ (l m : List ℕ) (a : Alike l m) (fine : badImage (length l) ≡ false)
       by-test (λ b. isShort (blocks l) (length ks) (length vs) ≡ b → recoveryOf m ks vs ≡ recoveryOf l ks vs) _
       (λ x e. sym (recovery-short m ks vs fine-too (same-short ks vs ∙ e)) ∙ recovery-short l ks vs fine e)
       (λ x e. recovery-accepted m fine-too second ks vs (same-short ks vs ∙ e)
-      ∙ (λ i. recoveryIs (sizes 0 (length (same-chain i)) (length (same-entries i))) (over (same-smallest i) ks) (over (same-chain i) vs))
+      ∙ (λ i. recoveryIs (sizes 0 (length (same-chain i)) (length (same-entries i))) (over (same-smallest i) ks)
+      (over (same-chain i) vs))
       ∙ sym (recovery-accepted l fine first ks vs e))
       refl
     where

@@ -1,5 +1,5 @@
 -- "An all-zero image is blank: sound, with an empty map": all three calls accept it, for every N from 1 to 256.
-use mathlib.Core.Path.{_≡_, refl, sym, ap, _∙_}
+use mathlib.Core.Path.{_≡_, refl, ap, _∙_}
 use mathlib.Core.Bool.{false}
 use mathlib.Core.List.{List, [], _∷_, map}
 use mathlib.Core.Logic.{inl}
@@ -58,11 +58,14 @@ module _ (l : List ℕ) (z : Blank l) (fine : badImage (length l) ≡ false) whe
   unfolding startingAt only
   blank-listing from ks vs =
       listing-accepted l fine (blank-image l z pos) from ks vs
-      ∙ ap (λ (es : List Entry). listingIs (counted 0 (length es)) (over (map (λ e. e .key) es) ks) (over (map (λ e. e .val) es) vs)) none-listed
+      ∙ ap
+      (λ (es : List Entry). listingIs (counted 0 (length es)) (over (map (λ e. e .key) es) ks) (over (map (λ e. e .val) es) vs))
+      none-listed
     where
       none-listed : listed l from ks vs ≡ []
       none-listed =
-          ap (λ (es : List Entry). take (min (length ks) (length vs)) (startingAt from es)) blank-entries ∙ take-nil (min (length ks) (length vs))
+          ap (λ (es : List Entry). take (min (length ks) (length vs)) (startingAt from es)) blank-entries
+          ∙ take-nil (min (length ks) (length vs))
 
   -- one leaf, block 0, with no entry
   pub blank-recovery : (ks vs : List ℕ) → isShort (blocks l) (length ks) (length vs) ≡ false

@@ -1,9 +1,9 @@
--- Two buffers filled with the keys and values of entries, one by one, while there is room: what the loops of listing and recovery
--- compute, and what it comes to.
+-- Two buffers filled with the keys and values of entries, one by one, while there is room: what the loops of listing and
+-- recovery compute, and what it comes to.
 use mathlib.Core.Path.{_≡_, refl, sym, ap, _∙_}
-use mathlib.Core.Bool.{Bool, true, false, cond}
+use mathlib.Core.Bool.{cond}
 use mathlib.Core.List.{List, [], _∷_, _++_, map}
-use Prim.Native.Nat.{ℕ, zero, suc, _+_, _-_, _≤_, _<_}
+use Prim.Native.Nat.{ℕ, suc, _+_, _-_, _≤_, _<_}
 use native.Mathlib.Nat.{zero-add}
 use native.Mathlib.Numerals.{add-one}
 use native.Mathlib.Decide.{decLt}
@@ -51,7 +51,8 @@ module _ (room : ℕ) where
   unfolding fill
   fill-append [] fs b = refl
   fill-append (e ∷ es) fs b = by-test
-      (λ t. ltb (b .used) room ≡ t → cond t (fill room (es ++ fs) (entered e b)) b ≡ fill room fs (cond t (fill room es (entered e b)) b))
+      (λ t. ltb (b .used) room ≡ t
+      → cond t (fill room (es ++ fs) (entered e b)) b ≡ fill room fs (cond t (fill room es (entered e b)) b))
       (ltb (b .used) room)
       (λ x h. fill-append es fs (entered e b))
       (λ x h. sym (fill-full fs b (ltb-false (b .used) room h)))

@@ -1,6 +1,7 @@
--- One turn of each loop of listing, as a step of what the buffers are filled with, and each answer, from the tests that led to it.
+-- One turn of each loop of listing, as a step of what the buffers are filled with, and each answer, from the tests that led
+-- to it.
 use mathlib.Core.Path.{_≡_, refl, sym, ap, _∙_, subst}
-use mathlib.Core.Bool.{Bool, true, false, cond, not}
+use mathlib.Core.Bool.{true, false, cond, not}
 use mathlib.Core.List.{List, [], _∷_, _++_, map}
 use mathlib.Core.Logic.{_≢_}
 use Prim.Native.Nat.{ℕ, zero, suc, _+_, _-_, _*_, _^_, _≤_, _<_, min}
@@ -15,14 +16,16 @@ use Rattle.leaf.specs.Search.{leastFrom}
 use Rattle.leaf.specs.SearchLaws.{least-at}
 use Rattle.leaf.specs.declared.search.Slot.{Slot}
 use Rattle.leaf.specs.declared.search.Slot.the-variants.{At, Missing}
-use Rattle.steps.specs.Refusals.{answer, badImage}
+use Rattle.steps.specs.Refusals.{badImage}
 use Rattle.image.specs.Map.{Entry, startingAt}
 use Rattle.image.specs.Chain.{All}
 use Rattle.image.specs.Image.{blocks, leaves}
-use Rattle.image.specs.Order.{onward, slotsFrom, slotsOf}
+use Rattle.image.specs.Order.{slotsFrom, slotsOf}
 use Rattle.image.specs.Entries.{entryIn, entriesIn, entriesOf, listOf, list-from}
 use Rattle.survey.specs.Walk.{surveyed}
-use Rattle.index.specs.Reading.{isSound, chainFrom, entriesIn as inMap, over, counted, listedAs, Listing, listingIs, listed, listingOf}
+use Rattle.index.specs.Reading.{chainFrom, entriesIn as inMap, over}
+use Rattle.index.specs.Reading.{counted, listedAs, Listing, listingIs, listed, listingOf}
+use Rattle.index.specs.Rows.{row-given, row-passed}
 use Rattle.index.specs.SoundTest.{says-yes, says-no, noted-target}
 use Rattle.index.specs.Filling.{Buffers, buffers, fill, fill-full, fill-one, fill-append, fill-whole}
 use Rattle.index.specs.Along.{chain-on, chain-last, chain-over}
@@ -71,7 +74,8 @@ module _ (L : Leaf) (room i lo n : ℕ) (ks vs : List ℕ) (whole : Buffers)
   unfolding leafRest entriesIn fill
   leaf-none e = rw (slots-none L (14 - i) lo e) at so-far
 
-  module _ (s k v : ℕ) (turn : i < 14) (has-room : n < room) (found : leastFrom L lo ≡ At s) (key : k ≡ L .key s) (value : v ≡ L .val s) where
+  module _ (s k v : ℕ) (turn : i < 14) (has-room : n < room) (found : leastFrom L lo ≡ At s) (key : k ≡ L .key s)
+      (value : v ≡ L .val s) where
     pub leaf-next : fill room (leafRest L (i + 1) (k + 1)) (buffers (n + 1) (set ks n k) (set vs n v)) ≡ whole
     unfolding leafRest slotsFrom entriesIn
     leaf-next =
@@ -99,7 +103,8 @@ unfolding listFrom listOf entriesFrom entriesOf slotsOf
 list-all I [] = refl
 list-all I (b ∷ bs) = refl
 
-module _ (I : ℕ → Leaf) (N room i b lo : ℕ) (st whole : Buffers) (so-far : fill room (listFrom I lo (chainFrom I (N - i) b)) st ≡ whole) where
+module _ (I : ℕ → Leaf) (N room i b lo : ℕ) (st whole : Buffers)
+    (so-far : fill room (listFrom I lo (chainFrom I (N - i) b)) st ≡ whole) where
   pub chain-done : N ≤ i → st ≡ whole
   unfolding listFrom fill
   chain-done h = rw (chain-over I N i b h) at so-far
@@ -113,7 +118,8 @@ module _ (I : ℕ → Leaf) (N room i b lo : ℕ) (st whole : Buffers) (so-far :
 
     pub chain-next : (c : ℕ) → c ≡ I b .next → c ≢ 0 → fill room (listFrom I 0 (chainFrom I (N - (i + 1)) c)) st' ≡ whole
     chain-next c e nz =
-        rw (e, list-all I (chainFrom I (N - (i + 1)) (I b .next))) (rest (chainFrom I (N - (i + 1)) (I b .next)) (chain-on I N i b turn (λ z. nz (e ∙ z))))
+        rw (e, list-all I (chainFrom I (N - (i + 1)) (I b .next)))
+        (rest (chainFrom I (N - (i + 1)) (I b .next)) (chain-on I N i b turn (λ z. nz (e ∙ z))))
 
     pub chain-ends : (c : ℕ) → c ≡ I b .next → c ≡ 0 → st' ≡ whole
     unfolding listOf fill
@@ -135,30 +141,32 @@ module _ (l : List ℕ) (from : ℕ) (fine : badImage (length l) ≡ false) (sou
   target-near = let t = noted-target l from fine sound in subst (All (λ c. c < blocks l)) (sym (t .ahead)) (t .near)
 
   -- what the leaves from the target on hold from the key on are the map's entries from it on
-  target-lists : listFrom (leaves l) from (chainFrom (leaves l) (blocks l) (surveyed (leaves l) (blocks l) from .target)) ≡ startingAt from (inMap l)
+  target-lists : listFrom (leaves l) from (chainFrom (leaves l) (blocks l) (surveyed (leaves l) (blocks l) from .target))
+      ≡ startingAt from (inMap l)
   unfolding listFrom entriesFrom inMap
   target-lists =
       let t = noted-target l from fine sound in
       ap (listFrom (leaves l) from) (t .ahead)
-      ∙ sym (list-from (leaves l) (blocks l) (t .front) (surveyed (leaves l) (blocks l) from .target) (t .behind) (t .sound) from (t .target-is))
+      ∙ sym (list-from (leaves l) (blocks l) (t .front) (surveyed (leaves l) (blocks l) from .target) (t .behind) (t .sound) from
+      (t .target-is))
       ∙ ap (λ (bs : List ℕ). startingAt from (listOf (leaves l) bs)) (sym (t .whole))
 
--- the answer by the two tests
-abbrev pub listingBy : Bool → Bool → List Entry → List ℕ → List ℕ → Listing
-listingBy bad sound es ks vs =
-    let n = answer ((1, bad) ∷ (3, not sound) ∷ []) in
+-- the outcome by the answer, where these are the entries to write
+abbrev pub listingOn : List Entry → List ℕ → List ℕ → ℕ → Listing
+listingOn es ks vs n =
     cond (eqb n 0) (listingIs (counted n (length es)) (over (map (λ e. e .key) es) ks) (over (map (λ e. e .val) es) vs))
     (listingIs (counted n 0) ks vs)
 
 module _ (l : List ℕ) (from : ℕ) (ks vs : List ℕ) where
   pub listing-bad : badImage (length l) ≡ true → listingIs (listedAs BadImage) ks vs ≡ listingOf l from ks vs
   unfolding listingOf
-  listing-bad e = λ i. listingBy (sym e i) (isSound l) (listed l from ks vs) ks vs
+  listing-bad e = sym (ap (listingOn (listed l from ks vs) ks vs) (row-given 1 _ e))
 
   pub listing-unsound : badImage (length l) ≡ false → (surveyed (leaves l) (blocks l) from .stage ≡ 1 → ⊥)
       → listingIs (listedAs Unsound) ks vs ≡ listingOf l from ks vs
   unfolding listingOf
-  listing-unsound fine ne = λ i. listingBy (sym fine i) (sym (says-no l from fine ne) i) (listed l from ks vs) ks vs
+  listing-unsound fine ne =
+      sym (ap (listingOn (listed l from ks vs) ks vs) (row-passed 1 _ fine ∙ row-given 3 0 (ap not (says-no l from fine ne))))
 
   pub listing-done : badImage (length l) ≡ false → surveyed (leaves l) (blocks l) from .stage ≡ 1
       → (room b n : ℕ) (ks' vs' : List ℕ) → room ≡ min (length ks) (length vs) → b ≡ surveyed (leaves l) (blocks l) from .target
@@ -172,7 +180,7 @@ module _ (l : List ℕ) (from : ℕ) (ks vs : List ℕ) where
       ∙ fill-whole room (startingAt from (inMap l)) ks vs (omega arith) (omega arith)
       ∙ ap (λ (m : ℕ). filled (take m (startingAt from (inMap l)))) r in
       ap (λ (x : Buffers). listingIs (counted 0 (x .used)) (x .keys) (x .values)) whole
-      ∙ (λ i. listingBy (sym fine i) (sym (says-yes l from fine e) i) (listed l from ks vs) ks vs)
+      ∙ sym (ap (listingOn (listed l from ks vs) ks vs) (row-passed 1 _ fine ∙ row-passed 3 0 (ap not (says-yes l from fine e))))
     where
       filled : List Entry → Buffers
       filled es = buffers (length es) (over (map (λ e. e .key) es) ks) (over (map (λ e. e .val) es) vs)

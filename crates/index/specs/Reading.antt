@@ -15,7 +15,11 @@ use Rattle.survey.specs.Walk.{surveyed}
 use Rattle.index.specs.declared.find.Found.{Found}
 use Rattle.index.specs.declared.find.Found.the-variants.{Value, BadImage, Unsound, Absent}
 use Rattle.index.specs.declared.listing.Listed.{Listed}
-use Rattle.index.specs.declared.listing.Listed.the-variants.{Count, BadImage as ListedBadImage, Unsound as ListedUnsound}
+use Rattle.index.specs.declared.listing.Listed.the-variants.{
+  Count,
+  BadImage as ListedBadImage,
+  Unsound as ListedUnsound,
+}
 use Rattle.index.specs.declared.recovery.Recovered.{Recovered}
 use Rattle.index.specs.declared.recovery.Recovered.the-variants.{
   Leaves,
@@ -151,12 +155,13 @@ abbrev pub recoveryTable : List ℕ → List ℕ → List ℕ → List (ℕ × B
 recoveryTable l smallest numbers =
     (1, badImage (length l)) ∷ (8, isShort (blocks l) (length smallest) (length numbers)) ∷ (3, not (isSound l)) ∷ []
 
--- "Recovery judges the image and writes, in chain order, each leaf's smallest key (0 for an empty block 0) and block number, and
--- tells the leaves and entries."
+-- "Recovery judges the image and writes, in chain order, each leaf's smallest key (0 for an empty block 0) and block number,
+-- and tells the leaves and entries."
 unfoldable pub recoveryOf : List ℕ → List ℕ → List ℕ → Recovery
 recoveryOf l smallest numbers =
     let n = answer (recoveryTable l smallest numbers) in
     let bs = chainOf l in
     cond (eqb n 0)
-    (recoveryIs (sizes n (length bs) (length (entriesIn l))) (over (map (λ b. smallestOf (leaves l b)) bs) smallest) (over bs numbers))
+    (recoveryIs (sizes n (length bs) (length (entriesIn l))) (over (map (λ b. smallestOf (leaves l b)) bs) smallest)
+    (over bs numbers))
     (recoveryIs (sizes n 0 0) smallest numbers)

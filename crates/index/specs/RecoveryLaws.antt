@@ -12,7 +12,7 @@ use lib.Seq.{take-all}
 use Rattle.words.specs.Bools.{by-test, differ}
 use Rattle.leaf.specs.Leaf.{Leaf}
 use Rattle.leaf.specs.Search.{smallestOf}
-use Rattle.steps.specs.Refusals.{answer, badImage}
+use Rattle.steps.specs.Refusals.{badImage}
 use Rattle.image.specs.Map.{Entry, entry}
 use Rattle.image.specs.Chain.{All}
 use Rattle.image.specs.ChainSize.{chain-short, chain-near}
@@ -20,7 +20,9 @@ use Rattle.image.specs.Entries.{listOf, chain-length}
 use Rattle.image.specs.Image.{blocks, leaves}
 use Rattle.image.specs.ImageLaws.{good-length}
 use Rattle.survey.specs.Walk.{surveyed}
-use Rattle.index.specs.Reading.{isSound, chainFrom, chainOf, entriesIn, over, sizes, recoveredAs, Recovery, recoveryIs, isShort, recoveryOf}
+use Rattle.index.specs.Reading.{chainFrom, chainOf, entriesIn, over}
+use Rattle.index.specs.Reading.{sizes, recoveredAs, Recovery, recoveryIs, isShort, recoveryOf}
+use Rattle.index.specs.Rows.{row-given, row-passed}
 use Rattle.index.specs.SoundTest.{survey-sound, says-yes, says-no, sound-chain}
 use Rattle.index.specs.Filling.{Buffers, buffers, fill, fill-one, fill-whole}
 use Rattle.index.specs.Along.{chain-on, chain-last, chain-over}
@@ -87,7 +89,8 @@ module _ (l : List ℕ) (fine : badImage (length l) ≡ false) (sound : surveyed
   unfolding chainOf
   all-near =
       let s = survey-sound l 0 fine sound in
-      subst (All (λ c. c < blocks l)) (sym chain-found) (chain-near (leaves l) (blocks l) (s .chain) (s .sound) ((good-length l fine) .some))
+      subst (All (λ c. c < blocks l)) (sym chain-found)
+      (chain-near (leaves l) (blocks l) (s .chain) (s .sound) ((good-length l fine) .some))
 
   entries-told : surveyed (leaves l) (blocks l) 0 .entries ≡ length (entriesIn l)
   unfolding entriesIn
@@ -110,12 +113,12 @@ not-short N a b e = by-test (λ t. ltb a N ≡ t → (t || ltb b N) ≡ false �
     e
 
 module _ (l : List ℕ) (ks vs : List ℕ) where
-  -- the answer by the three tests and the entries
-  abbrev pub recoveryBy : Bool → Bool → Bool → ℕ → Recovery
-  recoveryBy bad short sound m =
-      let n = answer ((1, bad) ∷ (8, short) ∷ (3, not sound) ∷ []) in
+  -- the outcome by the answer, where this is the number of the entries
+  abbrev pub recoveryOn : ℕ → ℕ → Recovery
+  recoveryOn m n =
       cond (eqb n 0)
-      (recoveryIs (sizes n (length (chainOf l)) m) (over (map (λ b. smallestOf (leaves l b)) (chainOf l)) ks) (over (chainOf l) vs))
+      (recoveryIs (sizes n (length (chainOf l)) m) (over (map (λ b. smallestOf (leaves l b)) (chainOf l)) ks)
+      (over (chainOf l) vs))
       (recoveryIs (sizes n 0 0) ks vs)
 
   abbrev short : Bool
@@ -123,16 +126,19 @@ module _ (l : List ℕ) (ks vs : List ℕ) where
 
   pub recovery-bad : badImage (length l) ≡ true → recoveryIs (recoveredAs BadImage) ks vs ≡ recoveryOf l ks vs
   unfolding recoveryOf
-  recovery-bad e = λ i. recoveryBy (sym e i) short (isSound l) (length (entriesIn l))
+  recovery-bad e = sym (ap (recoveryOn (length (entriesIn l))) (row-given 1 _ e))
 
   pub recovery-short : badImage (length l) ≡ false → short ≡ true → recoveryIs (recoveredAs ShortBuffer) ks vs ≡ recoveryOf l ks vs
   unfolding recoveryOf
-  recovery-short fine e = λ i. recoveryBy (sym fine i) (sym e i) (isSound l) (length (entriesIn l))
+  recovery-short fine e = sym (ap (recoveryOn (length (entriesIn l))) (row-passed 1 _ fine ∙ row-given 8 _ e))
 
   module _ (fine : badImage (length l) ≡ false) (wide : short ≡ false) where
-    pub recovery-unsound : (surveyed (leaves l) (blocks l) 0 .stage ≡ 1 → ⊥) → recoveryIs (recoveredAs Unsound) ks vs ≡ recoveryOf l ks vs
+    pub recovery-unsound : (surveyed (leaves l) (blocks l) 0 .stage ≡ 1 → ⊥)
+        → recoveryIs (recoveredAs Unsound) ks vs ≡ recoveryOf l ks vs
     unfolding recoveryOf
-    recovery-unsound ne = λ i. recoveryBy (sym fine i) (sym wide i) (sym (says-no l 0 fine ne) i) (length (entriesIn l))
+    recovery-unsound ne =
+        sym (ap (recoveryOn (length (entriesIn l)))
+        (row-passed 1 _ fine ∙ row-passed 8 _ wide ∙ row-given 3 0 (ap not (says-no l 0 fine ne))))
 
     pub recovery-done : surveyed (leaves l) (blocks l) 0 .stage ≡ 1 → (n m : ℕ) (ks' vs' : List ℕ)
         → m ≡ surveyed (leaves l) (blocks l) 0 .entries
@@ -143,4 +149,6 @@ module _ (l : List ℕ) (ks vs : List ℕ) where
         let room = not-short (blocks l) (length ks) (length vs) wide in
         let whole = is ∙ leads-fill (leaves l) (blocks l) (chainOf l) ks vs (chain-fits l fine e) (room .0) (room .1) in
         ap (λ (x : Buffers). recoveryIs (sizes 0 (x .used) m) (x .keys) (x .values)) whole
-        ∙ (λ i. recoveryBy (sym fine i) (sym wide i) (sym (says-yes l 0 fine e) i) ((q ∙ entries-told l fine e) i))
+        ∙ ap (λ (x : ℕ). recoveryOn x 0) (q ∙ entries-told l fine e)
+        ∙ sym (ap (recoveryOn (length (entriesIn l)))
+        (row-passed 1 _ fine ∙ row-passed 8 _ wide ∙ row-passed 3 0 (ap not (says-yes l 0 fine e))))

@@ -26,7 +26,7 @@ pub enum Listed {
 // No key is above this one.
 const LAST_KEY: u64 = 18446744073709551615;
 
-// The entries of a leaf with keys from `from` on, put behind the n that the buffers hold already, while there is room.
+// The entries of a leaf with keys from `from` on, put behind those that the buffers hold already, while there is room.
 fn list_leaf(
     leaf: &[u8],
     from: u64,

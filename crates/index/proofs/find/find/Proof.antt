@@ -1,10 +1,10 @@
 use borrow.Author.Needs.{needs}
 use native.Mathlib.Omega.{arith}
-use mathlib.Core.Path.{_≡_, sym, ap, _∙_}
+use mathlib.Core.Path.{sym, ap, _∙_}
 use denote.Ref.{now}
-use Prim.Native.Nat.{ℕ, _<_}
+use Prim.Native.Nat.{ℕ}
 use Rattle.leaf.specs.Search.{slotOf}
-use Rattle.image.specs.Image.{blocks, leaves}
+use Rattle.image.specs.Image.{leaves}
 use Rattle.survey.specs.Walk.{State}
 use Rattle.index.specs.Reading.{foundAs}
 use Rattle.index.specs.SoundTest.{long-enough, noted-bounds, block-inside}

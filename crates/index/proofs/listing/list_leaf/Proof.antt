@@ -51,16 +51,12 @@ key-at-requires : tie.Need-key-at-requires Inv-loop μ-loop
 key-at-requires c κs =
     let s = c .before in
     let f = s .before .before in
-    let k = f .before .before .before in
-    let a = k .before .before .before .before .args in
     (omega arith, subst (Within 14) (s .s .given .1) (f .least-from .ensures .1))
 
 value-at-requires : tie.Need-value-at-requires Inv-loop μ-loop
 value-at-requires c κs =
     let s = c .before .before in
     let f = s .before .before in
-    let k = f .before .before .before in
-    let a = k .before .before .before .before .args in
     (omega arith, subst (Within 14) (s .s .given .1) (f .least-from .ensures .1))
 
 returns-3 : tie.Need-returns-3 Inv-loop μ-loop
@@ -70,10 +66,10 @@ returns-3 c =
     let s = y .before .before in
     let f = s .before .before in
     let k = f .before .before .before in
-    let b = k .before .before .before .before in
-    let a = b .args in
+    let a = k .before .before .before .before .args in
     let L = leafIn (now (a .leaf)) in
-    leaf-last (now (a .leaf)) (a .room) (k .loop .i + 1) (y .key-at .result) _ _ (λ i. omega (arith, k .before .before .before .shared-slice-known .given i))
+    leaf-last (now (a .leaf)) (a .room) (k .loop .i + 1) (y .key-at .result) _ _
+    (λ i. omega (arith, k .before .before .before .shared-slice-known .given i))
     (c .if2 .taken)
     (leaf-next L (a .room) (k .loop .i) (k .loop .lo) (k .loop .n) (k .loop .keys) (k .loop .values) _ (k .loop .inv .3)
     (s .s .given .0 .0) (y .key-at .result) (v .value-at .result) (omega arith) (f .before .if1 .left)

@@ -1,7 +1,7 @@
 use borrow.Author.Needs.{needs}
 use native.Mathlib.Omega.{arith}
 use Prim.Native.Nat.{ℕ, _<_}
-use mathlib.Core.Path.{_≡_, sym, ap, _∙_, subst}
+use mathlib.Core.Path.{sym, ap, _∙_, subst}
 use denote.Ref.{now}
 use Rattle.image.specs.Chain.{All}
 use Rattle.image.specs.Image.{blocks, leaves}
@@ -24,7 +24,8 @@ list-chain-requires c κs =
       omega arith,
       omega (arith, r .shorter .ensures),
       omega (arith, r .shorter .ensures),
-      subst (λ (t : ℕ). All (λ x. x < blocks l) (chainFrom (leaves l) (blocks l) t)) (sym (ap (λ (st : State). st .target) (s .survey .ensures)))
+      subst (λ (t : ℕ). All (λ x. x < blocks l) (chainFrom (leaves l) (blocks l) t))
+          (sym (ap (λ (st : State). st .target) (s .survey .ensures)))
           (target-near l (a .from) fine sound),
     )
 

@@ -1,6 +1,6 @@
 use borrow.Author.Needs.{needs}
 use native.Mathlib.Omega.{arith}
-use mathlib.Core.Path.{_≡_, sym, ap, _∙_}
+use mathlib.Core.Path.{sym, ap, _∙_}
 use denote.Ref.{now}
 use lib.ListN.{length}
 use Rattle.image.specs.Image.{blocks}
@@ -19,7 +19,8 @@ lead-chain-requires c κs =
     let a = b .before .before .before .before .args in
     let l = now (a .image) in
     let fine = sym (b .bad-image .ensures) ∙ h .before .if1 .left in
-    let room = not-short (blocks l) (length (now (a .smallest))) (length (now (a .blocks))) (sym (h .is-short .ensures) ∙ s .before .if2 .left) in
+    let wide = sym (h .is-short .ensures) ∙ s .before .if2 .left in
+    let room = not-short (blocks l) (length (now (a .smallest))) (length (now (a .blocks))) wide in
     (omega arith, room .0, room .1, all-near l fine (sym (ap (λ (st : State). st .stage) (s .survey .ensures)) ∙ t .if3 .left))
 
 returns-4 : tie.Need-returns-4
