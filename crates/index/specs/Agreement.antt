@@ -4,7 +4,7 @@ use mathlib.Core.Path.{_≡_, refl, sym, ap, _∙_, subst}
 use mathlib.Core.Bool.{true, false, not}
 use mathlib.Core.List.{List, [], _∷_, map}
 use mathlib.Core.Option.{Option, some, none}
-use Prim.Native.Nat.{ℕ, zero, suc, _≤_}
+use Prim.Native.Nat.{ℕ, zero, suc, min, _≤_}
 use lib.ListN.{length, take}
 use Rattle.leaf.specs.Search.{smallestOf}
 use Rattle.steps.specs.Refusals.{badImage}
@@ -75,4 +75,4 @@ module _ (l : List ℕ) (fine : badImage (length l) ≡ false) (S : SoundImage l
   listing-agrees from = starting-lists entries-list from
 
   pub listing-rises : (from : ℕ) (ks vs : List ℕ) → Sorted 0 (listed l from ks vs)
-  listing-rises from ks vs = sorted-take _ 0 (startingAt from (entriesIn l)) (listing-agrees from .sorted)
+  listing-rises from ks vs = sorted-take (min (length ks) (length vs)) 0 (startingAt from (entriesIn l)) (listing-agrees from .sorted)
