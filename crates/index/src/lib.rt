@@ -1,5 +1,5 @@
 // The calls that read an image.
-mod along;
+pub mod along;
 pub mod find;
 pub mod listing;
 pub mod recovery;

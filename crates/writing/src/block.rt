@@ -1,9 +1,8 @@
-// One block of an image: its header, its active sibling, the slot of a key.
+// One block of an image: its header and the slot of a key.
 use header::Header;
 use leaf::place::Leaf;
 use leaf::search::Slot;
 use leaf::search::find_slot;
-use leaf::search::next_of;
 ghost use mathlib.Core.Path.{_≡_};
 ghost use Prim.Native.Nat.{_+_, _*_, _≤_};
 ghost use lib.ListN.{length};
@@ -27,14 +26,4 @@ pub fn slot_in(image: &[u8], block: u64, key: u64) -> Slot
     let a = Leaf::BYTES * (block as usize);
     let e = a + Leaf::BYTES;
     find_slot(&image[a..e], key)
-}
-
-pub fn next_in(image: &[u8], block: u64) -> u64
-    requires { ⌜ 256 * block + 256 ≤ length (now image) ⌝ }
-    ensures { λ r. ⌜ r ≡ leaves (now (image .entry)) block .next ⌝ }
-{
-    let a = Leaf::BYTES * (block as usize);
-    let e = a + Leaf::BYTES;
-    let leaf = &image[a..e];
-    next_of(leaf, Header::read(leaf, 0))
 }

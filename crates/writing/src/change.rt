@@ -1,11 +1,11 @@
 // Set and del: a change at a key that is there. Each makes three steps.
 use crate::Made;
 use crate::block::head_in;
-use crate::block::next_in;
 use crate::block::slot_in;
 use emit::short::write_clear;
 use emit::short::write_set;
 use emit::short::write_unlink;
+use index::along::next_block;
 use leaf::search::Slot;
 use leaf::search::entries;
 use machine::bad_image;
@@ -77,7 +77,7 @@ fn write_del(image: &[u8], before: u64, block: u64, s: usize, list: &mut [u64])
 {
     let head = head_in(image, block);
     if is_alone(block, entries(head)) {
-        let next = next_in(image, block);
+        let next = next_block(image, block);
         write_unlink(list, head_in(image, before), before, next);
     } else {
         write_clear(list, head, block, s);

@@ -22,7 +22,7 @@ returns c =
     let h = n .before in
     let a = h .before .before .before .args in
     let r = reads (now (a .image)) in
-    u .write-unlink .ensures r (a .block) (sym (h2 .head-in2 .ensures)) (sym (x .next-in .ensures))
+    u .write-unlink .ensures r (a .block) (sym (h2 .head-in2 .ensures)) (sym (x .next-block .ensures))
     ∙ ap (λ (l : List Step). written l (now (a .list)))
     (alone-unlink r (a .before) (a .block) (a .s) (n .entries .result)
     (n .entries .ensures ∙ ap (λ (z : ℕ). countTo (occIn z) 14) (h .head-in .ensures))
