@@ -24,6 +24,7 @@ use Rattle.image.specs.Target.{Reaches}
 use Rattle.image.specs.Walk.{Stands, Walked, Onward, walk-on}
 use Rattle.survey.specs.Walk.{State, againBy, bareBy, lowBy, moved}
 use Rattle.verdict.specs.Passed.{Passed}
+use Rattle.verdict.specs.Place.{reachesTo, targetFrom, beforeFrom}
 
 -- the last of a list, or p where it is empty: "the leaf before" of block 0 is never asked
 abbrev pub lastOr : ℕ → List ℕ → ℕ
@@ -32,19 +33,6 @@ lastOr p (x ∷ xs) = lastOr x xs
 
 abbrev pub lastOf : List ℕ → ℕ
 lastOf xs = lastOr 0 xs
-
--- "The target leaf of a key is the last chained leaf whose smallest key is at most that key; if there is none, block 0": some key of a
--- leaf is at most k; the last leaf of a list that has one, or t; and the leaf before it, or p
-abbrev pub reachesTo : Leaf → ℕ → Bool
-reachesTo L k = not (eqb (countTo (atMost L k) (L .size)) 0)
-
-unfoldable pub targetFrom : (ℕ → Leaf) → ℕ → ℕ → List ℕ → ℕ
-targetFrom I k t [] = t
-targetFrom I k t (b ∷ bs) = targetFrom I k (cond (reachesTo (I b) k) b t) bs
-
-unfoldable pub beforeFrom : (ℕ → Leaf) → ℕ → ℕ → ℕ → List ℕ → ℕ
-beforeFrom I k p prev [] = p
-beforeFrom I k p prev (b ∷ bs) = beforeFrom I k (cond (reachesTo (I b) k) prev p) b bs
 
 -- The last leaf that reaches to the key, with the leaf before it; or none does.
 pub data Aim (I : ℕ → Leaf) (key : ℕ) (xs : List ℕ) (target before : ℕ) : Type 0 where

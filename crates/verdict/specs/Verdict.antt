@@ -22,7 +22,8 @@ use Rattle.image.specs.Walk.{Stands, Walked, Onward, walk-start, walk-begins, w
 use Rattle.survey.specs.Walk.{State, againBy, faultOf, judged, moved, stopped, walk, start, surveyed}
 use Rattle.survey.specs.Turns.{walk-stop}
 use Rattle.verdict.specs.Passed.{fault-passed, passed-fault, fault-number}
-use Rattle.verdict.specs.Notes.{Notes, nowhere, targetFrom, beforeFrom, passed-stands, stands-passed, notes-on}
+use Rattle.verdict.specs.Place.{targetFrom, beforeFrom}
+use Rattle.verdict.specs.Notes.{Notes, nowhere, passed-stands, stands-passed, notes-on}
 
 -- the walk goes on: the block at hand is a new one
 pub record Going (I : ℕ → Leaf) (N key : ℕ) (xs : List ℕ) (st : State) : Type 0 where

@@ -22,7 +22,7 @@ use Rattle.image.specs.Map.{lookup}
 use Rattle.image.specs.Answers.{valueAt}
 use Rattle.image.specs.Image.{blocks, leaves}
 use Rattle.survey.specs.Walk.{surveyed}
-use Rattle.verdict.specs.Notes.{targetFrom, beforeFrom}
+use Rattle.verdict.specs.Place.{targetFrom, beforeFrom}
 use Rattle.index.specs.Reading.{isSound, entriesIn, isNone}
 use Rattle.index.specs.SoundTest.{survey-sound, says-yes, says-no, sound-chain}
 use Rattle.index.specs.FindLaws.{noted-lookup}

@@ -16,7 +16,7 @@ use Rattle.steps.specs.Model.{lineWrites, wordWrites}
 use Rattle.steps.specs.Encoding.{stepsOf, written}
 use Rattle.image.specs.Map.{lookup}
 use Rattle.image.specs.Image.{blocks, leaves}
-use Rattle.verdict.specs.Notes.{targetFrom, beforeFrom}
+use Rattle.verdict.specs.Place.{targetFrom, beforeFrom}
 use Rattle.index.specs.Reading.{isSound, chainOf, entriesIn, isNone}
 use Rattle.lists.specs.Lists.{setList, delList}
 use Rattle.lists.specs.FullLists.{putList}
