@@ -1,195 +1,24 @@
 // Find, listing and recovery on images that are sound and on images damaged in each way that document 01 names. What it must
 // print is worked out by hand from document 01; the file stdout has it, and the file meaning a line for each of its lines.
-use header::Header;
-use header::fingerprint_of;
-use index::find::Found;
-use index::listing::Listed;
-use index::recovery::Recovered;
-use leaf::place::Leaf;
-use libc::STDOUT_FILENO;
-ghost use Prim.Native.Nat.{_+_, _*_, _≤_, _<_};
-ghost use mathlib.Core.Path.{_≡_};
+mod images;
+mod tell;
+
+use crate::images::LAST;
+use crate::images::build;
+use crate::images::build_long;
+use crate::images::enter;
+use crate::images::link;
+use crate::tell::end_line;
+use crate::tell::find;
+use crate::tell::list;
+use crate::tell::recover;
+use crate::tell::tell;
+use crate::tell::tell_all;
+use crate::tell::tell_first;
+use crate::tell::tell_image;
+use crate::tell::tell_recovered;
+ghost use Prim.Native.Nat.{_+_, _≤_, _<_};
 ghost use lib.ListN.{length};
-
-const LAST: u64 = 18446744073709551615;
-
-// ---- what is told
-
-fn tell(n: u64) {
-    io::print_decimal(STDOUT_FILENO, n);
-    io::write_all(STDOUT_FILENO, b" ");
-}
-
-fn end_line() {
-    io::write_all(STDOUT_FILENO, b"\n");
-}
-
-fn tell_all(list: &[u64]) {
-    let mut i = 0;
-    while i < list.len() {
-        tell(list[i]);
-        i += 1;
-    }
-}
-
-fn tell_found(found: Found) {
-    match found {
-        Found::Value(v) => {
-            tell(0);
-            tell(v);
-        }
-        Found::BadImage => {
-            tell(1);
-            tell(0);
-        }
-        Found::Unsound => {
-            tell(3);
-            tell(0);
-        }
-        Found::Absent => {
-            tell(5);
-            tell(0);
-        }
-    }
-}
-
-fn tell_listed(listed: Listed) {
-    match listed {
-        Listed::Count(n) => {
-            tell(0);
-            tell(n);
-        }
-        Listed::BadImage => {
-            tell(1);
-            tell(0);
-        }
-        Listed::Unsound => {
-            tell(3);
-            tell(0);
-        }
-    }
-}
-
-fn tell_recovered(recovered: Recovered) {
-    match recovered {
-        Recovered::Leaves(leaves, entries) => {
-            tell(0);
-            tell(leaves);
-            tell(entries);
-        }
-        Recovered::BadImage => {
-            tell(1);
-            tell(0);
-            tell(0);
-        }
-        Recovered::ShortBuffer => {
-            tell(8);
-            tell(0);
-            tell(0);
-        }
-        Recovered::Unsound => {
-            tell(3);
-            tell(0);
-            tell(0);
-        }
-    }
-}
-
-// ---- the calls, into buffers whose elements are all 9
-
-fn find(image: &[u8], key: u64) {
-    tell_found(index::find::find(image, key));
-}
-
-fn list_into(image: &[u8], from: u64, keys: &mut [u64], values: &mut [u64]) {
-    tell_listed(index::listing::listing(image, from, keys, values));
-    tell_all(keys);
-    tell_all(values);
-}
-
-fn list_parts(image: &[u8], from: u64, keys: &mut [u64], k: usize, values: &mut [u64], v: usize)
-    requires { ⌜ (k ≤ length (now keys)) × (v ≤ length (now values)) ⌝ }
-{
-    list_into(image, from, &mut keys[0..k], &mut values[0..v]);
-}
-
-fn list(image: &[u8], from: u64, k: usize, v: usize)
-    requires { ⌜ (k ≤ 6) × (v ≤ 6) ⌝ }
-{
-    let mut keys = [9u64; 6];
-    let mut values = [9u64; 6];
-    list_parts(image, from, &mut keys, k, &mut values, v);
-}
-
-fn recover_into(image: &[u8], smallest: &mut [u64], blocks: &mut [u64]) {
-    tell_recovered(index::recovery::recovery(image, smallest, blocks));
-    tell_all(smallest);
-    tell_all(blocks);
-}
-
-fn recover_parts(image: &[u8], smallest: &mut [u64], k: usize, blocks: &mut [u64], v: usize)
-    requires { ⌜ (k ≤ length (now smallest)) × (v ≤ length (now blocks)) ⌝ }
-{
-    recover_into(image, &mut smallest[0..k], &mut blocks[0..v]);
-}
-
-fn recover(image: &[u8], k: usize, v: usize)
-    requires { ⌜ (k ≤ 4) × (v ≤ 4) ⌝ }
-{
-    let mut smallest = [9u64; 4];
-    let mut blocks = [9u64; 4];
-    recover_parts(image, &mut smallest, k, &mut blocks, v);
-}
-
-// Find 20, list from 6 on into two keys and three values, recover into four each.
-fn tell_image(image: &[u8]) {
-    find(image, 20);
-    list(image, 6, 2, 3);
-    recover(image, 4, 4);
-    end_line();
-}
-
-fn tell_first(image: &[u8], n: usize)
-    requires { ⌜ n ≤ length (now image) ⌝ }
-{
-    tell_image(&image[0..n]);
-}
-
-// ---- images
-
-fn enter(image: &mut [u8], block: usize, s: usize, key: u64, value: u64)
-    requires { ⌜ (256 * block + 256 ≤ length (now image)) × (s < 14) ⌝ }
-    ensures { λ _. ⌜ length (now (image .exit)) ≡ length (now (image .entry)) ⌝ }
-{
-    let a = Leaf::BYTES * block;
-    let head = Header::read(image, a).mark(s, fingerprint_of(key));
-    words::set_word(image, a + Leaf::key_place(s), key);
-    words::set_word(image, a + Leaf::value_place(s), value);
-    words::set_word(image, a, head.low);
-    words::set_word(image, a + 8, head.high);
-}
-
-fn link(image: &mut [u8], block: usize, next: u64)
-    requires { ⌜ 256 * block + 256 ≤ length (now image) ⌝ }
-    ensures { λ _. ⌜ length (now (image .exit)) ≡ length (now (image .entry)) ⌝ }
-{
-    let a = Leaf::BYTES * block;
-    words::set_word(image, a + Leaf::SIBLING0, next);
-}
-
-// Blocks 0, 2, 1 in this order: keys 5 and 10, keys 20 and 30, key 2^64 - 1, each with the value told. Block 3 is free.
-fn build(image: &mut [u8])
-    requires { ⌜ 1024 ≤ length (now image) ⌝ }
-    ensures { λ _. ⌜ length (now (image .exit)) ≡ length (now (image .entry)) ⌝ }
-{
-    enter(image, 0, 3, 10, 100);
-    enter(image, 0, 1, 5, 50);
-    link(image, 0, 2);
-    enter(image, 2, 0, 20, 200);
-    enter(image, 2, 13, 30, 300);
-    link(image, 2, 1);
-    enter(image, 1, 6, LAST, 7);
-}
 
 // The image of four blocks with one word stored.
 fn stored(place: usize, value: u64)
@@ -220,8 +49,6 @@ fn entered(block: usize, s: usize, key: u64)
     enter(&mut image, block, s, key, 1);
     tell_image(&image);
 }
-
-// ---- the cases
 
 // "every chained leaf has lock 0": bit 14 of block 2, and the same of block 3, which is not chained.
 fn locks() {
@@ -358,20 +185,6 @@ fn one_block() {
     list(&image, 1, 3, 3);
     recover(&image, 1, 1);
     end_line();
-}
-
-// Block b has the key 10b + 1 with the value b, and names block b + 1, the last one no block.
-fn build_long(image: &mut [u8])
-    requires { ⌜ 65536 ≤ length (now image) ⌝ }
-    ensures { λ _. ⌜ length (now (image .exit)) ≡ length (now (image .entry)) ⌝ }
-{
-    let mut b: usize = 0;
-    while b < 256 {
-        let n = b as u64;
-        enter(image, b, 0, 10 * n + 1, n);
-        link(image, b, n + 1);
-        b += 1;
-    }
 }
 
 fn tell_long(image: &[u8]) {

@@ -3,8 +3,8 @@ use borrow.Author.Needs.{needs}
 use Prim.Native.Nat.{_-_, _≤_}
 use mathlib.Core.Path.{_≡_}
 use lib.ListN.{length}
-use Rattle.index_cases.proofs.build_long.Statement.{statement}
-use Rattle.index_cases.proofs.build_long.Tie as tie
+use Rattle.index_cases.proofs.images.build_long.Statement.{statement}
+use Rattle.index_cases.proofs.images.build_long.Tie as tie
 
 abbrev Inv-loop : tie.InvT-loop
 Inv-loop image₀ b₀ image b = (b ≤ 256) × (length image ≡ length image₀)

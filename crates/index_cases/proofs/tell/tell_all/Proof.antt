@@ -1,8 +1,8 @@
 use borrow.Author.Needs.{needs}
 use Prim.Native.Nat.{_-_, _≤_}
 use lib.ListN.{length}
-use Rattle.index_cases.proofs.tell_all.Statement.{statement}
-use Rattle.index_cases.proofs.tell_all.Tie as tie
+use Rattle.index_cases.proofs.tell.tell_all.Statement.{statement}
+use Rattle.index_cases.proofs.tell.tell_all.Tie as tie
 
 abbrev Inv-loop : tie.InvT-loop
 Inv-loop list i₀ i = i ≤ length list
