@@ -1,28 +1,26 @@
 -- The plain put that follows a split, as code makes it: by the switched header and the entries as they were.
-use Prim.Native.Nat.{ℕ, suc, _+_, _-_, _*_, _≤_, _<_}
+use Prim.Native.Nat.{ℕ, suc, _+_, _*_, _≤_, _<_}
 use native.Mathlib.Decide.{decLt}
 use native.Mathlib.Omega.{arith}
-use mathlib.Core.List.{List, [], _∷_, _++_}
+use mathlib.Core.List.{List, [], _∷_}
 use mathlib.Core.Path.{_≡_, refl, sym, ap, ap₂, _∙_}
 use mathlib.Core.Logic.{_≢_}
 use borrow.Author.Tests.{lt-ltb, le-ltb}
 use Rattle.words.specs.Update.{upd, upd-same, upd-other}
-use Rattle.header.specs.Header.{whole, altIn, marked, cleared, fingerprintOf}
+use Rattle.header.specs.Header.{whole, marked, cleared, fingerprintOf}
 use Rattle.leaf.specs.Leaf.{Leaf, Right, occIn, headOf, block, view}
 use Rattle.leaf.specs.LeafLaws.{block-store}
 use Rattle.leaf.specs.Search.{lowestVacant, count}
 use Rattle.leaf.specs.SearchLaws.{vacant-at}
-use Rattle.steps.specs.declared.Step.{Step}
-use Rattle.steps.specs.declared.Step.the-variants.{Store as store}
-use Rattle.steps.specs.Shapes.{twoParts}
 use Rattle.steps.specs.Lists.{runAll, run-all, run-all-append}
 use Rattle.steps.specs.CallShapes.{storesFrom}
 use Rattle.image.specs.Copies.{Copy}
 use Rattle.image.specs.EditMaps.{Fits}
 use Rattle.image.specs.WordSplit.{wordOf}
-use Rattle.lists.specs.Lists.{wordPlace, lowWord, highWord, headIn, entrySteps, copiesBeside}
-use Rattle.lists.specs.Lists.{copySteps, copiedHead, filledHead, farBacks, farPut, putAt, putFound, plainPut}
-use Rattle.lists.specs.FullLists.{movedSlots, goesUp, newWords, switchedHead, splitStores, splitBacks, splitList, after}
+use Rattle.lists.specs.Lists.{wordPlace, lowWord, headIn, lastBeside, copiesBeside}
+use Rattle.lists.specs.Lists.{copySteps, copiedHead, filledHead, farPut, putAt, putFound, plainPut}
+use Rattle.lists.specs.FullLists.{movedSlots, goesUp, newWords, linkWord, linkStore, switchedHead}
+use Rattle.lists.specs.FullLists.{splitStores, splitBacks, splitList, after}
 use Rattle.lists.specs.Served.{Small}
 use Rattle.lists.specs.Beside.{beside-fit}
 use Rattle.lists.specs.Parts.{parts-run}
@@ -50,11 +48,10 @@ module _ (h : ℕ) (L M : Leaf) (same : (j : ℕ) → j < 3 → (M .key j ≡ L 
     unfolding farPut filledHead
     far-cong s past slot =
         let f = beside-fit h b s past slot in
-        ap₂
-        (λ (x : List Step) (y : ℕ).
-        twoParts (entrySteps b s k v ++ x) (farBacks b s) (store (wordPlace b 1) (highWord y) ∷ []) (wordPlace b 0) (lowWord y))
-        (steps-cong (copiesBeside h s) 0 (suc s) _ f)
-        (head-cong (copiesBeside h s) (marked h s (fingerprintOf k)) 0 (suc s) _ f)
+        rw (
+          steps-cong (copiesBeside h s) 0 (suc s) (suc (lastBeside s)) f,
+          head-cong (copiesBeside h s) (marked h s (fingerprintOf k)) 0 (suc s) (suc (lastBeside s)) f,
+        )
 
     at-cong : (s : ℕ) → s < 14 → putAt h M b s k v ≡ putAt h L b s k v
     unfolding putAt
@@ -73,12 +70,13 @@ module _ (h : ℕ) (L M : Leaf) (same : (j : ℕ) → j < 3 → (M .key j ≡ L 
 
 -- ---- the old leaf when the split has been run
 
-module _ (w : ℕ → ℕ) (small : Small w) (b c : ℕ) (apart : b ≢ c) (right : Right (view w b)) (full : count (view w b) ≡ 14) (k v : ℕ) where
+module _ (w : ℕ → ℕ) (small : Small w) (b c : ℕ) (apart : b ≢ c) (right : Right (view w b))
+    (full : count (view w b) ≡ 14) (k v : ℕ) where
   abbrev words : List ℕ
   words = newWords (goesUp (view w b) k) (view w b) (movedSlots (view w b)) k v
 
   abbrev link : ℕ
-  link = 30 + (1 - altIn (headIn w b))
+  link = linkWord w b
 
   abbrev low : ℕ
   low = lowWord (switchedHead w b)
@@ -93,7 +91,7 @@ module _ (w : ℕ → ℕ) (small : Small w) (b c : ℕ) (apart : b ≢ c) (righ
       (sym (run-all upd (splitList w b c k v) w)
       ∙ parts-run (splitStores w b c k v) (splitBacks b c) [] (wordPlace b 0) low upd w (tt, (tt, (tt, (tt, (tt, tt)))))
       ∙ ap (λ (m : ℕ → ℕ). upd m (wordPlace b 0) low)
-      (run-all-append upd (storesFrom (wordPlace c 0) words) (store (wordPlace b link) c ∷ []) w))
+      (run-all-append upd (storesFrom (wordPlace c 0) words) (linkStore w b c) w))
       ∙ block-store (upd placed (wordPlace b link) c) b 0 low (omega arith)
       ∙ ap (λ (g : ℕ → ℕ). upd g 0 low)
       (block-store placed b link c (omega arith)

@@ -1,5 +1,5 @@
 -- What is promised of a list, in bytes: the image that run and cut leave has as many bytes as before, and its words are
--- those that the promise in words is about.
+-- those that the promise in words is about. To be believed: the definitions down to the first line of dashes.
 use Prim.Native.Nat.{ℕ, zero, suc, _+_, _*_, _/_, _^_, _≤_, _<_}
 use native.Mathlib.Decide.{ℕ-discrete, decLt}
 use native.Mathlib.Omega.{arith}
@@ -25,7 +25,7 @@ use Rattle.image.specs.Map.{Entry}
 use Rattle.image.specs.Image.{blocks, leaves}
 use Rattle.image.specs.Potential.{phi}
 use Rattle.image.specs.Entries.{listOf}
-use Rattle.lists.specs.Served.{Proper, Left, spent, Served}
+use Rattle.lists.specs.Served.{perCut, Proper, Left, spent, Served}
 
 -- a word stored in an image of bytes, at its place in words
 abbrev pub storeWord : List ℕ → ℕ → ℕ → List ℕ
@@ -43,8 +43,8 @@ pub record ServedBytes (rule : Rule) (l : List ℕ) (bs : List ℕ) (t : List St
   pub settled : AllSettled rule (stepsOf t) (length t)
   pub whole : LeftBytes l (run storeWord (stepsOf t) l (length t)) es (spent t (length t)) (phi (leaves l) bs + price)
   pub cuts : (n : ℕ) (a : ℕ → ℕ) → n ≤ length t → Permitted line rule (stepsOf t) n a
-      → LeftBytes l (cut storeWord line (stepsOf t) a l n) (listOf (leaves l) bs) (spent t n) (phi (leaves l) bs + 42)
-      ⊎ LeftBytes l (cut storeWord line (stepsOf t) a l n) es (spent t n) (phi (leaves l) bs + 42)
+      → LeftBytes l (cut storeWord line (stepsOf t) a l n) (listOf (leaves l) bs) (spent t n) (phi (leaves l) bs + perCut)
+      ⊎ LeftBytes l (cut storeWord line (stepsOf t) a l n) es (spent t n) (phi (leaves l) bs + perCut)
 
 -- ---- a stored word is eight bytes
 
@@ -77,8 +77,8 @@ proper-inside N z e (fence ∷ l) a = (refl, proper-inside N z e l (a .1))
 
 -- ---- the promise
 
-module _ (rule : Rule) (l : List ℕ) (bs : List ℕ) (t : List Step) (es : List Entry) (price : ℕ) (whole : length l ≡ 256 * blocks l)
-    (bytes : Bytes l) (S : Served rule (reads l) (blocks l) bs t es price) where
+module _ (rule : Rule) (l : List ℕ) (bs : List ℕ) (t : List Step) (es : List Entry) (price : ℕ)
+    (whole : length l ≡ 256 * blocks l) (bytes : Bytes l) (S : Served rule (reads l) (blocks l) bs t es price) where
   -- an image of as many bytes
   abbrev Alike : List ℕ → Type 0
   Alike m = (length m ≡ length l) × Bytes m
@@ -95,39 +95,42 @@ module _ (rule : Rule) (l : List ℕ) (bs : List ℕ) (t : List Step) (es : List
   keeps m p v f a = (length-store m (8 * p) v ∙ a .0, bytes-store m (8 * p) v (a .1))
 
   cut-alike : (n : ℕ) (a : ℕ → ℕ) → n ≤ length t → Alike (cut storeWord line (stepsOf t) a l n)
-  cut-alike n a h = cut-keeps line storeWord Held Alike keeps (stepsOf t) a l n (λ i p v b e x. held n h i p v b e) (refl, bytes)
+  cut-alike n a h =
+      cut-keeps line storeWord Held Alike keeps (stepsOf t) a l n (λ i p v b e x. held n h i p v b e) (refl, bytes)
+
+  shows : (m : List ℕ) (p v : ℕ) → Held p v → Alike m → reads (storeWord m p v) ≡ upd (reads m) p v
+  shows m p v f e = reads-store m p v (omega (arith, f .0, e .0)) (f .1)
 
   pub cut-reads : (n : ℕ) (a : ℕ → ℕ) → n ≤ length t
       → reads (cut storeWord line (stepsOf t) a l n) ≡ cut upd line (stepsOf t) a (reads l) n
   cut-reads n a h =
-      cut-view storeWord upd reads Held Alike keeps (λ m p v f e. reads-store m p v (omega (arith, f .0, e .0)) (f .1)) line (stepsOf t) a l n
-      (held n h)
-      (refl, bytes)
+      cut-view storeWord upd reads Held Alike keeps shows line (stepsOf t) a l n (held n h) (refl, bytes)
 
   pub run-reads : (n : ℕ) → n ≤ length t → reads (run storeWord (stepsOf t) l n) ≡ run upd (stepsOf t) (reads l) n
   run-reads n h =
-      run-view storeWord upd reads Held Alike keeps (λ m p v f e. reads-store m p v (omega (arith, f .0, e .0)) (f .1)) (stepsOf t) l n
-      (held n h)
-      (refl, bytes)
+      run-view storeWord upd reads Held Alike keeps shows (stepsOf t) l n (held n h) (refl, bytes)
 
-  lift : (m : List ℕ) (x : ℕ → ℕ) (fs : List Entry) (cost bound : ℕ) → Alike m → reads m ≡ x → Left (blocks l) x fs cost bound
-      → LeftBytes l m fs cost bound
+  lift : (m : List ℕ) (x : ℕ → ℕ) (fs : List Entry) (cost bound : ℕ) → Alike m → reads m ≡ x
+      → Left (blocks l) x fs cost bound → LeftBytes l m fs cost bound
   lift m x fs cost bound a e r = record {
     long = a .0;
     bytes = a .1;
     left = rw (e, ap (λ (z : ℕ). z / 256) (a .0)) r;
   }
 
+  -- the image of a whole run is that of a cut in which all stores arrived
+  run-alike : Alike (run storeWord (stepsOf t) l (length t))
+  run-alike =
+      rw (cut-made line storeWord (stepsOf t) l (length t)) at
+      (cut-alike (length t) (made line (stepsOf t) (length t)) (omega arith))
+
   pub served-bytes : ServedBytes rule l bs t es price
   served-bytes = record {
     inside = proper-inside (blocks l) (length l) whole t (S .proper);
     settled = S .settled;
-    whole = lift (run storeWord (stepsOf t) l (length t)) (run upd (stepsOf t) (reads l) (length t)) es _ _
-        (rw (cut-made line storeWord (stepsOf t) l (length t)) at (cut-alike (length t) (made line (stepsOf t) (length t)) (omega arith)))
-        (run-reads (length t) (omega arith))
-        (S .whole);
+    whole = lift _ _ es _ _ run-alike (run-reads (length t) (omega arith)) (S .whole);
     cuts = λ n a h ok. elim (S .cuts n a h ok) [
-      | inl r ↦ inl (lift (cut storeWord line (stepsOf t) a l n) (cut upd line (stepsOf t) a (reads l) n) _ _ _ (cut-alike n a h) (cut-reads n a h) r)
-      | inr r ↦ inr (lift (cut storeWord line (stepsOf t) a l n) (cut upd line (stepsOf t) a (reads l) n) _ _ _ (cut-alike n a h) (cut-reads n a h) r)
+      | inl r ↦ inl (lift _ _ _ _ _ (cut-alike n a h) (cut-reads n a h) r)
+      | inr r ↦ inr (lift _ _ _ _ _ (cut-alike n a h) (cut-reads n a h) r)
     ];
   }

@@ -1,5 +1,5 @@
--- The lists of a put into a full leaf, and of put: document 01's section "What each call does", sentence by sentence. To be
--- believed.
+-- The lists of a put into a full leaf, and of put: document 01's section "What each call does", sentence by sentence.
+-- To be believed.
 use Prim.Native.Nat.{ℕ, suc, _+_, _-_, _*_}
 use mathlib.Core.Bool.{Bool, true, false, cond}
 use mathlib.Core.List.{List, [], _∷_, _++_}
@@ -17,7 +17,7 @@ use Rattle.steps.specs.Lists.{runAll}
 use Rattle.steps.specs.Shapes.{twoParts}
 use Rattle.steps.specs.CallShapes.{storesFrom}
 use Rattle.image.specs.Order.{slotsOf}
-use Rattle.lists.specs.Lists.{wordPlace, sibPlace, lowWord, highWord, headIn, putAt, plainPut}
+use Rattle.lists.specs.Lists.{wordPlace, lowWord, highWord, headIn, putAt, plainPut}
 
 -- ---- the new leaf's words
 
@@ -33,8 +33,8 @@ firstKey L (s ∷ ss) = L .key s
 unfoldable pub goesUp : Leaf → ℕ → Bool
 goesUp L k = ltb (firstKey L (movedSlots L)) k
 
--- "in the header the bits and fingerprints of the filled slots, lock and alt 0": the entries of the slots ss in the slots
--- from t on, and where it goes there "the new entry in slot 6"
+-- "in the header the bits and fingerprints of the filled slots, lock and alt 0": the entries of the slots ss in the
+-- slots from t on, and where it goes there "the new entry in slot 6"
 abbrev pub markedFrom : Leaf → ℕ → ℕ → List ℕ → ℕ
 markedFrom L h t [] = h
 markedFrom L h t (s ∷ ss) = markedFrom L (marked h t (fingerprintOf (L .key s))) (suc t) ss
@@ -46,8 +46,8 @@ abbrev pub entryWords : Leaf → List ℕ → List ℕ
 entryWords L [] = []
 entryWords L (s ∷ ss) = L .key s ∷ L .val s ∷ entryWords L ss
 
--- "Its 32 words (..) in rising order: the seven largest keys of the full leaf in slots 7 to 13, rising; sibling 0 the old
--- active sibling; (..) the new entry in slot 6; in the header (..); all else zero."
+-- "Its 32 words (..) in rising order: the seven largest keys of the full leaf in slots 7 to 13, rising; sibling 0 the
+-- old active sibling; (..) the new entry in slot 6; in the header (..); all else zero."
 abbrev pub newWords : Bool → Leaf → List ℕ → ℕ → ℕ → List ℕ
 newWords up L ss k v =
     lowWord (newHeader up L ss k) ∷ highWord (newHeader up L ss k)
@@ -61,12 +61,18 @@ clearedAll h (s ∷ ss) = clearedAll (cleared h s) ss
 abbrev pub switchedHead : (ℕ → ℕ) → ℕ → ℕ
 switchedHead w b = flipped (clearedAll (headIn w b) (movedSlots (view w b)))
 
--- "Its 32 words are stored in rising order (..). Store the new block's number in the old leaf's inactive sibling." The old
--- leaf is block b, the new one block c.
+-- "Store the new block's number in the old leaf's inactive sibling." The old leaf is block b, the new one block c.
+abbrev pub linkWord : (ℕ → ℕ) → ℕ → ℕ
+linkWord w b = 30 + (1 - altIn (headIn w b))
+
+abbrev pub linkStore : (ℕ → ℕ) → ℕ → ℕ → List Step
+linkStore w b c = store (wordPlace b (linkWord w b)) c ∷ []
+
+-- "Its 32 words are stored in rising order", and the link
 abbrev pub splitStores : (ℕ → ℕ) → ℕ → ℕ → ℕ → ℕ → List Step
 splitStores w b c k v =
     storesFrom (wordPlace c 0) (newWords (goesUp (view w b) k) (view w b) (movedSlots (view w b)) k v)
-    ++ (store (sibPlace b (1 - altIn (headIn w b))) c ∷ [])
+    ++ linkStore w b c
 
 -- "Write back the new leaf's four lines in order, then line 3 of the old leaf"
 abbrev pub splitBacks : ℕ → ℕ → List Step
@@ -83,11 +89,11 @@ after l w = runAll upd l w
 
 -- "Where the new key is below the smallest moved key, a plain put into the old leaf follows, after that last fence. At
 -- most 56 steps, 8 of them line writes."
--- "Correction to 001. Its Algorithm 3, lines 20 to 23, puts into the old leaf before the header is switched. The slot it
--- takes is vacant only in the copy of the header; in the memory it still holds a moved entry. A cut there loses that
--- entry. Ours switches first." So this is the put of the image after the split. With the keys 1 to 14 put in order and
--- then 0, 001's order stores the key 0 over the key 13 of slot 0, which the header in the memory still calls occupied, and
--- the new leaf is not linked yet: a cut there loses the entry 13.
+-- "Correction to 001. Its Algorithm 3, lines 20 to 23, puts into the old leaf before the header is switched. The slot
+-- it takes is vacant only in the copy of the header; in the memory it still holds a moved entry. A cut there loses
+-- that entry. Ours switches first." So this is the put of the image after the split. With the keys 1 to 14 put in
+-- order and then 0, 001's order stores the key 0 over the key 13 of slot 0, which the header in the memory still
+-- calls occupied, and the new leaf is not linked yet: a cut there loses the entry 13.
 abbrev pub putBelow : Bool → (ℕ → ℕ) → ℕ → ℕ → ℕ → ℕ → List Step
 putBelow true w b c k v = []
 putBelow false w b c k v =

@@ -1,5 +1,5 @@
--- Put into a full leaf: the split is a section; where the new key went to the new leaf it is the whole put, else it leaves
--- the entries as they are and pays for itself, and a plain put follows.
+-- Put into a full leaf: the split is a section; where the new key went to the new leaf it is the whole put, else it
+-- leaves the entries as they are and pays for itself, and a plain put follows.
 use Prim.Native.Nat.{ℕ, _+_, _-_, _*_, _^_, _≤_, _<_}
 use native.Mathlib.Decide.{ℕ-discrete}
 use native.Mathlib.Omega.{arith}
@@ -10,11 +10,11 @@ use mathlib.Core.Logic.{_⊎_, inl, _≢_}
 use lib.ListN.{length, drop}
 use borrow.Author.Tests.{ltb-true, ltb-false}
 use Rattle.words.specs.Update.{upd}
-use Rattle.header.specs.Header.{whole, altIn, flipped}
+use Rattle.header.specs.Header.{whole, flipped}
 use Rattle.leaf.specs.Leaf.{Leaf, Taken, In, Right, block, view}
 use Rattle.leaf.specs.Search.{count}
 use Rattle.steps.specs.declared.Step.{Step}
-use Rattle.steps.specs.declared.Step.the-variants.{Store as store, WriteBack as writeBack}
+use Rattle.steps.specs.declared.Step.the-variants.{WriteBack as writeBack}
 use Rattle.steps.specs.Model.{Rule, line, run}
 use Rattle.steps.specs.Settling.{Lawful}
 use Rattle.steps.specs.Section.{Section}
@@ -37,12 +37,14 @@ use Rattle.image.specs.Entries.{listOf}
 use Rattle.image.specs.Changes.{Stays, changed-stays}
 use Rattle.image.specs.Potential.{phi}
 use Rattle.image.specs.PotentialLaws.{phi-split}
-use Rattle.image.specs.WordSplit.{wordOf, Placed, splitImage, Splits, split-others, split-moved, split-words, split-put-words}
+use Rattle.image.specs.WordSplit.{wordOf, Placed, splitImage, Splits, split-others, split-moved, split-words}
+use Rattle.image.specs.WordSplit.{split-put-words}
 use Rattle.image.specs.WordSplit.{split-old-count, split-new-count, split-put-count, split-room}
 use Rattle.image.specs.Answers.{put-list, stays-list}
-use Rattle.lists.specs.Lists.{wordPlace, sibPlace, lowWord, headIn}
-use Rattle.lists.specs.FullLists.{movedSlots, firstKey, goesUp, newWords, clearedAll, switchedHead, splitStores, splitBacks, splitList}
-use Rattle.lists.specs.Served.{Small, Proper, Served}
+use Rattle.lists.specs.Lists.{wordPlace, lowWord, headIn}
+use Rattle.lists.specs.FullLists.{movedSlots, firstKey, goesUp, newWords, linkWord, linkStore, clearedAll}
+use Rattle.lists.specs.FullLists.{switchedHead, splitStores, splitBacks, splitList}
+use Rattle.lists.specs.Served.{perPut, Small, Proper, Served}
 use Rattle.lists.specs.Headers.{low-small, under-low, under-all, under-flipped}
 use Rattle.lists.specs.Parts.{parts-each, parts-run, parts-section}
 use Rattle.lists.specs.Sizes.{new-length, split-lines}
@@ -105,15 +107,15 @@ new-backed b c p l h =
       ]
     ]
 
-old-backed : (b c a : ℕ) → a < 2 → Backed (splitBacks b c) (line (sibPlace b a))
-old-backed b c a h =
-    let e : line (sibPlace b a) ≡ 4 * b + 3 = omega arith in
+old-backed : (b c i : ℕ) → 30 ≤ i → i < 32 → Backed (splitBacks b c) (line (wordPlace b i))
+old-backed b c i l h =
+    let e : line (wordPlace b i) ≡ 4 * b + 3 = omega arith in
     record { index = 4; inside = omega arith; is = ap writeBack (sym e) }
 
 -- ---- the split
 
-module _ (rule : Rule) (L : Lawful rule) (w : ℕ → ℕ) (small : Small w) (N : ℕ) (some : 0 < N) (most : N ≤ 256) (xs : List ℕ) (b c : ℕ) (ys : List ℕ)
-    (S : Sound (view w) N (xs ++ (b ∷ ys))) (fresh : All (λ x. x ≢ c) (xs ++ (b ∷ ys))) (room : c < N)
+module _ (rule : Rule) (L : Lawful rule) (w : ℕ → ℕ) (small : Small w) (N : ℕ) (some : 0 < N) (most : N ≤ 256) (xs : List ℕ)
+    (b c : ℕ) (ys : List ℕ) (S : Sound (view w) N (xs ++ (b ∷ ys))) (fresh : All (λ x. x ≢ c) (xs ++ (b ∷ ys))) (room : c < N)
     (full : count (view w b) ≡ 14) (k v : ℕ) (key : k < 2 ^ 64) (val : v < 2 ^ 64) where
   abbrev bs : List ℕ
   bs = xs ++ (b ∷ ys)
@@ -163,9 +165,6 @@ module _ (rule : Rule) (L : Lawful rule) (w : ℕ → ℕ) (small : Small w) (N 
 
   -- ---- its steps
 
-  abbrev link : List Step
-  link = store (sibPlace b (1 - altIn (headIn w b))) c ∷ []
-
   abbrev early : List Step
   early = splitStores w b c k v
 
@@ -173,13 +172,13 @@ module _ (rule : Rule) (L : Lawful rule) (w : ℕ → ℕ) (small : Small w) (N 
   unfolding splitList
   split-run =
       parts-run early (splitBacks b c) [] (wordPlace b 0) low upd w (tt, (tt, (tt, (tt, (tt, tt)))))
-      ∙ ap (λ (m : ℕ → ℕ). upd m (wordPlace b 0) low) (run-all-append upd (storesFrom (wordPlace c 0) words) link w)
+      ∙ ap (λ (m : ℕ → ℕ). upd m (wordPlace b 0) low) (run-all-append upd (storesFrom (wordPlace c 0) words) (linkStore w b c) w)
 
   split-proper : Each (Proper N) (splitList w b c k v)
   unfolding splitList
   split-proper =
       parts-each early (splitBacks b c) [] (wordPlace b 0) low (Proper N)
-      (each-append (Proper N) (storesFrom (wordPlace c 0) words) link
+      (each-append (Proper N) (storesFrom (wordPlace c 0) words) (linkStore w b c)
       (stores-each (Proper N) Word (wordPlace c 0) words (new-small w small b up ss k v (half .seven) key val)
       (λ p x l h a. (omega (arith, long), a)))
       ((omega (arith, inside), omega arith), tt))
@@ -199,12 +198,12 @@ module _ (rule : Rule) (L : Lawful rule) (w : ℕ → ℕ) (small : Small w) (N 
   unfolding splitList
   split-section =
       parts-section early (splitBacks b c) [] (wordPlace b 0) low rule L (Harmless w bs)
-      (each-append (Into Early) (storesFrom (wordPlace c 0) words) link
+      (each-append (Into Early) (storesFrom (wordPlace c 0) words) (linkStore w b c)
       (stores-each (Into Early) Word (wordPlace c 0) words (new-small w small b up ss k v (half .seven) key val)
       (λ p x l h a. (out p x l (omega (arith, long)), inl (new-backed b c p l (omega (arith, long)))))) (
         (
-          harmless-in w xs b ys (30 + (1 - altIn (headIn w b))) c (S .distinct) (omega arith) (of-sib refl),
-          inl (old-backed b c (1 - altIn (headIn w b)) (omega arith)),
+          harmless-in w xs b ys (linkWord w b) c (S .distinct) (omega arith) (of-sib refl),
+          inl (old-backed b c (linkWord w b) (omega arith) (omega arith)),
         ),
         tt,
       ))
@@ -235,10 +234,11 @@ module _ (rule : Rule) (L : Lawful rule) (w : ℕ → ℕ) (small : Small w) (N 
       more
 
   pub up-served : goesUp (view w b) k ≡ true → Target (view w) b ys k → Absent (view w b) k
-      → Served rule w N (xs ++ (b ∷ ys)) (splitList w b c k v) (putIn k v (listOf (view w) (xs ++ (b ∷ ys)))) 20
+      → Served rule w N (xs ++ (b ∷ ys)) (splitList w b c k v) (putIn k v (listOf (view w) (xs ++ (b ∷ ys)))) perPut
   unfolding goesUp
   up-served e target absent =
-      section-served rule L w N bs S (splitList w b c k v) (putIn k v (listOf (view w) bs)) 20 split-proper split-section parted split-run
+      section-served rule L w N bs S (splitList w b c k v) (putIn k v (listOf (view w) bs)) perPut split-proper split-section parted
+      split-run
       (record {
         chain = xs ++ (b ∷ c ∷ ys);
         sound = changed .sound;

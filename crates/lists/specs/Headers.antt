@@ -1,5 +1,5 @@
--- The two words of a header that was marked, cleared or flipped: both are words, and where only bits and fingerprints of
--- word 0 changed, word 1 is as it was.
+-- The two words of a header that was marked, cleared or flipped: both are words, and where only bits and fingerprints
+-- of word 0 changed, word 1 is as it was.
 use Prim.Native.Nat.{ℕ, suc, _+_, _-_, _*_, _^_, _≤_, _<_}
 use native.Mathlib.Nat.{div-add-mod'}
 use native.Mathlib.Omega.{arith}

@@ -13,7 +13,8 @@ use Rattle.steps.specs.BelowLaws.{by-parts, count-le, count-from, count-cong}
 use Rattle.steps.specs.Model.{Steps, line, run, cut, Rule, Permitted, isLineWrite, lineWrites, storesTo, made}
 use Rattle.steps.specs.Settling.{Settled, AllSettled, Lawful, arrives-permitted, permitted-arrives}
 use Rattle.steps.specs.Section.{Section, section-cut}
-use Rattle.steps.specs.Concatenation.{from, Agree, rest, cut-cong, run-cong, cut-after, permitted-from, all-settled-cong, run-from}
+use Rattle.steps.specs.Concatenation.{from, Agree, rest, cut-cong, run-cong, cut-after, permitted-from}
+use Rattle.steps.specs.Concatenation.{all-settled-cong, run-from}
 use Rattle.steps.specs.Encoding.{stepsOf}
 use Rattle.steps.specs.Lists.{Each, each-append, at-left, at-right}
 use Rattle.steps.specs.Shapes.{append-settled}
@@ -26,7 +27,7 @@ use Rattle.image.specs.Potential.{excess, phi}
 use Rattle.image.specs.PotentialLaws.{sum-agree}
 use Rattle.image.specs.Entries.{listOf}
 use Rattle.image.specs.Answers.{stays-list}
-use Rattle.lists.specs.Served.{Proper, Left, spent, Served}
+use Rattle.lists.specs.Served.{perLine, perCut, Proper, Left, spent, Served}
 
 -- ---- a section
 
@@ -35,7 +36,7 @@ pub record Ends (N : ℕ) (w : ℕ → ℕ) (bs : List ℕ) (l : List Step) (m :
   pub sound : Sound (view x) N chain
   pub list : listOf (view x) chain ≡ m
   pub few : lineWrites (stepsOf l) (length l) ≤ 6
-  pub fair : price ≤ 42
+  pub fair : price ≤ perCut
   pub pays : spent l (length l) + phi (view x) chain ≤ phi (view w) bs + price
 
 module _ (rule : Rule) (L : Lawful rule) (w : ℕ → ℕ) (N : ℕ) (bs : List ℕ) (S : Sound (view w) N bs) where
@@ -70,7 +71,7 @@ module _ (rule : Rule) (L : Lawful rule) (w : ℕ → ℕ) (N : ℕ) (bs : List 
         ];
   }
     where
-      kept : (n : ℕ) (y : ℕ → ℕ) → n ≤ length l → Kept w bs y → Left N y (listOf (view w) bs) (spent l n) (phi (view w) bs + 42)
+      kept : (n : ℕ) (y : ℕ → ℕ) → n ≤ length l → Kept w bs y → Left N y (listOf (view w) bs) (spent l n) (phi (view w) bs + perCut)
       kept n y h k =
           let st = kept-stays w N bs y S k in
           record {
@@ -148,7 +149,7 @@ module _ (rule : Rule) (L : Lawful rule) (k l : List Step) (all : AllSettled rul
   -- what the first steps of the whole cost
   spent-first : (n : ℕ) → n ≤ length k → spent (k ++ l) n ≡ spent k n
   spent-first n h =
-      ap (λ (x : ℕ). 7 * x)
+      ap (λ (x : ℕ). perLine * x)
       (count-cong (λ i. isLineWrite (stepsOf (k ++ l) i)) (λ i. isLineWrite (stepsOf k i)) n
       (λ i b. ap isLineWrite (first i (omega arith))))
 
@@ -181,8 +182,8 @@ join-served rule L w N bs cs k l m price A x is S B = record {
       join-cuts rule L k l (A .settled) w Q
       (λ n a h ok. inl (rw (spent-first rule L k l (A .settled) n h) (elim (A .cuts n a h ok) [ inl y ↦ y | inr y ↦ y ])))
       (λ n a h ok. rw is (elim (B .cuts n a h ok) [
-        | inl y ↦ inl (rw (← same) (on n (cut upd line (stepsOf l) a x n) (listOf (view x) cs) 42 y))
-        | inr y ↦ inr (on n (cut upd line (stepsOf l) a x n) m 42 y)
+        | inl y ↦ inl (rw (← same) (on n (cut upd line (stepsOf l) a x n) (listOf (view x) cs) perCut y))
+        | inr y ↦ inr (on n (cut upd line (stepsOf l) a x n) m perCut y)
       ]))
       n
       a
@@ -191,8 +192,8 @@ join-served rule L w N bs cs k l m price A x is S B = record {
   where
     Q : ℕ → (ℕ → ℕ) → Type 0
     Q n y =
-        Left N y (listOf (view w) bs) (spent (k ++ l) n) (phi (view w) bs + 42)
-        ⊎ Left N y m (spent (k ++ l) n) (phi (view w) bs + 42)
+        Left N y (listOf (view w) bs) (spent (k ++ l) n) (phi (view w) bs + perCut)
+        ⊎ Left N y m (spent (k ++ l) n) (phi (view w) bs + perCut)
 
     onward : from (length k) (stepsOf (k ++ l)) ≡ stepsOf l
     onward = fun-ext (at-right k l)

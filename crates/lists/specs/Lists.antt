@@ -1,8 +1,8 @@
 -- The lists of set, del and the plain put: document 01's section "What each call does", sentence by sentence. To be
 -- believed.
 -- An image is its words, `w`. A place is the number of a word: block b has the words from 32b on and the lines from 4b
--- on. A list is made of sections: `oneStore p v` is a store, the write-back of its line and a fence, `oneLine t p v` has
--- the stores t before it, and `twoParts s r t p v` before these the stores s, the write-backs r and a fence.
+-- on. A list is made of sections: `oneStore p v` is a store, the write-back of its line and a fence, `oneLine t p v`
+-- has the stores t before it, and `twoParts s r t p v` before these the stores s, the write-backs r and a fence.
 use Prim.Native.Nat.{ℕ, suc, _+_, _-_, _*_, _/_, _%_, _^_}
 use mathlib.Core.Bool.{Bool, cond, not}
 use mathlib.Core.List.{List, [], _∷_, _++_}
@@ -83,8 +83,8 @@ abbrev pub lastBeside : ℕ → ℕ
 lastBeside s = cond (ltb s 7) 6 (cond (ltb s 11) 10 13)
 
 -- "Then, for each remaining vacant slot of that line in rising order, copy the entry of slot 0, then 1, then 2, while
--- there are any, storing key then value." (`copies` says from where and to where; there always are any, since slots 0 to 2
--- are occupied where the lowest vacant slot is past them.)
+-- there are any, storing key then value." (`copies` says from where and to where; there always are any, since slots 0
+-- to 2 are occupied where the lowest vacant slot is past them.)
 unfoldable pub copiesBeside : ℕ → ℕ → List Copy
 copiesBeside h s = copies (occIn h) 0 (suc s) (lastBeside s - s)
 

@@ -1,4 +1,5 @@
--- The shape of the longer lists, `twoParts`: how long it is, what is counted in it, what it leaves, and that it is a section.
+-- The shape of the longer lists, `twoParts`: how long it is, what is counted in it, what it leaves, and that it is a
+-- section.
 use Prim.Native.Nat.{ℕ, suc, _+_}
 use native.Mathlib.Omega.{arith}
 use mathlib.Core.Bool.{Bool}

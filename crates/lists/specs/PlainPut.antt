@@ -32,11 +32,13 @@ use Rattle.image.specs.Stretch.{Changed}
 use Rattle.image.specs.Entries.{listOf}
 use Rattle.image.specs.PotentialLaws.{phi-put}
 use Rattle.image.specs.WordCalls.{putWords, put-only, put-words, put-words-count}
-use Rattle.image.specs.WordMoves.{only-copies, newHead, movedImage, Moving, moved-prints, moved-words, moved-words-count}
+use Rattle.image.specs.WordMoves.{only-copies, newHead, movedImage, Moving, moved-prints, moved-words}
+use Rattle.image.specs.WordMoves.{moved-words-count}
 use Rattle.image.specs.Answers.{put-list}
-use Rattle.lists.specs.Lists.{wordPlace, keyPlace, valPlace, lowWord, highWord, headIn, entrySteps, nearPut, lastBeside}
+use Rattle.lists.specs.Lists.{wordPlace, keyPlace, valPlace, lowWord, highWord, headIn, entrySteps, nearPut}
+use Rattle.lists.specs.Lists.{lastBeside}
 use Rattle.lists.specs.Lists.{copiesBeside, filledHead, farStores, farBacks, highStore, farPut, putAt}
-use Rattle.lists.specs.Served.{Small, Proper, Served}
+use Rattle.lists.specs.Served.{perPut, Small, Proper, Served}
 use Rattle.lists.specs.Headers.{Fit, two-words, low-small, high-small, whole-fit, under-low, under-marked}
 use Rattle.lists.specs.Headers.{fit-marked, fit-copied}
 use Rattle.lists.specs.Parts.{parts-each, parts-run, parts-section}
@@ -64,10 +66,10 @@ module _ (rule : Rule) (L : Lawful rule) (w : ℕ → ℕ) (small : Small w) (N 
   harmless i x u l = harmless-in w xs b ys i x (S .distinct) l u
 
   pub near-served : s < 3
-      → Served rule w N (xs ++ (b ∷ ys)) (nearPut (headIn w b) b s k v) (putIn k v (listOf (view w) (xs ++ (b ∷ ys)))) 20
+      → Served rule w N (xs ++ (b ∷ ys)) (nearPut (headIn w b) b s k v) (putIn k v (listOf (view w) (xs ++ (b ∷ ys)))) perPut
   unfolding nearPut
   near-served near =
-      section-served rule L w N bs S (nearPut (headIn w b) b s k v) (putIn k v (listOf (view w) bs)) 20 (
+      section-served rule L w N bs S (nearPut (headIn w b) b s k v) (putIn k v (listOf (view w) bs)) perPut (
         (omega (arith, inside), key),
         ((omega (arith, inside), val), ((omega (arith, inside), low-small (newHead (block w b) s k)), (omega (arith, inside), (tt, tt)))),
       )
@@ -222,9 +224,10 @@ module _ (rule : Rule) (L : Lawful rule) (w : ℕ → ℕ) (small : Small w) (N 
         0 low (omega arith))
 
     pub far-served : Served rule w N (xs ++ (b ∷ ys)) (farPut (headIn w b) (view w b) b s k v)
-        (putIn k v (listOf (view w) (xs ++ (b ∷ ys)))) 20
+        (putIn k v (listOf (view w) (xs ++ (b ∷ ys)))) perPut
     far-served =
-        section-served rule L w N bs S (farPut (headIn w b) (view w b) b s k v) (putIn k v (listOf (view w) bs)) 20 far-proper far-section
+        section-served rule L w N bs S (farPut (headIn w b) (view w b) b s k v) (putIn k v (listOf (view w) bs)) perPut far-proper
+        far-section
         (movedImage w b s k v cs low high)
         far-run
         (record {
@@ -247,7 +250,7 @@ module _ (rule : Rule) (L : Lawful rule) (w : ℕ → ℕ) (small : Small w) (N 
   -- ---- either
 
   pub put-at-served : ((j : ℕ) → j < s → occIn (headIn w b) j ≡ true)
-      → Served rule w N (xs ++ (b ∷ ys)) (putAt (headIn w b) (view w b) b s k v) (putIn k v (listOf (view w) (xs ++ (b ∷ ys)))) 20
+      → Served rule w N (xs ++ (b ∷ ys)) (putAt (headIn w b) (view w b) b s k v) (putIn k v (listOf (view w) (xs ++ (b ∷ ys)))) perPut
   unfolding putAt
   put-at-served before =
       elim (decLt s 3) [

@@ -26,7 +26,7 @@ use Rattle.image.specs.Edits.{Absent}
 use Rattle.image.specs.Entries.{listOf}
 use Rattle.lists.specs.Lists.{headIn, putAt, putFound, plainPut}
 use Rattle.lists.specs.FullLists.{goesUp, splitList, after, putBelow, fullPut, putInto, putList}
-use Rattle.lists.specs.Served.{Small, Proper, Served}
+use Rattle.lists.specs.Served.{perPut, Small, Proper, Served}
 use Rattle.lists.specs.Joined.{join-served}
 use Rattle.lists.specs.Sizes.{by-slot}
 use Rattle.lists.specs.PlainPut.{put-at-served}
@@ -62,18 +62,18 @@ module _ (rule : Rule) (L : Lawful rule) (w : ℕ → ℕ) (small : Small w) (N 
     (S : Sound (view w) N (xs ++ (b ∷ ys))) (k v : ℕ) (key : k < 2 ^ 64) (val : v < 2 ^ 64) (target : Target (view w) b ys k)
     (absent : Absent (view w b) k) where
   found-served : (s : ℕ) → lowestVacant (occIn (headIn w b)) 14 ≡ At s
-      → Served rule w N (xs ++ (b ∷ ys)) (putAt (headIn w b) (view w b) b s k v) (putIn k v (listOf (view w) (xs ++ (b ∷ ys)))) 20
+      → Served rule w N (xs ++ (b ∷ ys)) (putAt (headIn w b) (view w b) b s k v) (putIn k v (listOf (view w) (xs ++ (b ∷ ys)))) perPut
   found-served s e =
       let (l, o, t) = vacant-at (occIn (headIn w b)) 14 s e in
       put-at-served rule L w small N some xs b ys S k v key val target absent s l o t
 
   pub plain-served : count (view w b) < 14
-      → Served rule w N (xs ++ (b ∷ ys)) (plainPut (headIn w b) (view w b) b k v) (putIn k v (listOf (view w) (xs ++ (b ∷ ys)))) 20
+      → Served rule w N (xs ++ (b ∷ ys)) (plainPut (headIn w b) (view w b) b k v) (putIn k v (listOf (view w) (xs ++ (b ∷ ys)))) perPut
   unfolding plainPut
   plain-served more =
       by-slot
       (λ x. Served rule w N (xs ++ (b ∷ ys)) (putFound x (headIn w b) (view w b) b k v)
-      (putIn k v (listOf (view w) (xs ++ (b ∷ ys)))) 20)
+      (putIn k v (listOf (view w) (xs ++ (b ∷ ys)))) perPut)
       (lowestVacant (occIn (headIn w b)) 14)
       found-served
       (λ e. absurd (omega (arith, none-vacant w b e)))
@@ -86,10 +86,10 @@ module _ (rule : Rule) (L : Lawful rule) (w : ℕ → ℕ) (small : Small w) (N 
     (room : count (view w b) ≡ 14 → (c < N) × All (λ x. x ≢ c) (xs ++ (b ∷ ys))) where
   below-served : count (view w b) ≡ 14 → goesUp (view w b) k ≡ false
       → Served rule w N (xs ++ (b ∷ ys)) (splitList w b c k v ++ putBelow false w b c k v)
-      (putIn k v (listOf (view w) (xs ++ (b ∷ ys)))) 20
+      (putIn k v (listOf (view w) (xs ++ (b ∷ ys)))) perPut
   below-served full e =
       rw (← run-is)
-      (join-served rule L w N (xs ++ (b ∷ ys)) (xs ++ (b ∷ c ∷ ys)) (splitList w b c k v) _ _ 20 split x at-end (r .sound)
+      (join-served rule L w N (xs ++ (b ∷ ys)) (xs ++ (b ∷ c ∷ ys)) (splitList w b c k v) _ _ perPut split x at-end (r .sound)
       (rw (← (r .list))
       (plain-served rule L x
       (subst (λ (y : ℕ → ℕ). Small y) (sym run-is) (run-small N (splitList w b c k v) w (split .proper) small))
@@ -110,11 +110,11 @@ module _ (rule : Rule) (L : Lawful rule) (w : ℕ → ℕ) (small : Small w) (N 
       r : PutRoom rule L w small N some most xs b c ys S (room full .1) (room full .0) full k v key val e
       r = put-room rule L w small N some most xs b c ys S (room full .1) (room full .0) full k v key val e target absent
 
-  pub put-served : Served rule w N (xs ++ (b ∷ ys)) (putList w b c k v) (putIn k v (listOf (view w) (xs ++ (b ∷ ys)))) 20
+  pub put-served : Served rule w N (xs ++ (b ∷ ys)) (putList w b c k v) (putIn k v (listOf (view w) (xs ++ (b ∷ ys)))) perPut
   unfolding putList fullPut
   put-served =
       by-slot
-      (λ x. Served rule w N (xs ++ (b ∷ ys)) (putInto x w b c k v) (putIn k v (listOf (view w) (xs ++ (b ∷ ys)))) 20)
+      (λ x. Served rule w N (xs ++ (b ∷ ys)) (putInto x w b c k v) (putIn k v (listOf (view w) (xs ++ (b ∷ ys)))) perPut)
       (lowestVacant (occIn (headIn w b)) 14)
       (found-served rule L w small N some xs b ys S k v key val target absent)
       (λ e.
@@ -122,7 +122,7 @@ module _ (rule : Rule) (L : Lawful rule) (w : ℕ → ℕ) (small : Small w) (N 
       by-test
       (λ t. goesUp (view w b) k ≡ t
       → Served rule w N (xs ++ (b ∷ ys)) (splitList w b c k v ++ putBelow t w b c k v)
-      (putIn k v (listOf (view w) (xs ++ (b ∷ ys)))) 20)
+      (putIn k v (listOf (view w) (xs ++ (b ∷ ys)))) perPut)
       (goesUp (view w b) k)
       (λ t u.
       rw append-nil

@@ -1,6 +1,6 @@
 -- What is promised of a list, in words: demand 2 (every store settled at its end, the image then sound with the entries
--- asked for, and at every cut sound with the entries before or after) and the rows of demand 3 (what the steps taken cost,
--- with the potential of the image that is left). To be believed.
+-- asked for, and at every cut sound with the entries before or after) and the rows of demand 3 (what the steps taken
+-- cost, with the potential of the image that is left). To be believed.
 use Prim.Native.Nat.{ℕ, _+_, _*_, _^_, _≤_, _<_}
 use mathlib.Core.List.{List}
 use mathlib.Core.Path.{_≡_}
@@ -43,16 +43,29 @@ pub record Left (N : ℕ) (x : ℕ → ℕ) (m : List Entry) (cost bound : ℕ) 
   pub list : listOf (view x) chain ≡ m
   pub within : cost + phi (view x) chain ≤ bound
 
--- seven for each line write among the first n steps
-abbrev pub spent : List Step → ℕ → ℕ
-spent l n = 7 * lineWrites (stepsOf l) n
+-- Demand 3, in sevenths of a line write: what a line write costs, and what a put, a set or del, and a cut call may cost
+abbrev pub perLine : ℕ
+perLine = 7
 
--- The list l brings the image w, sound with the chain bs, to the entries m. A call run whole may cost `price` more than
--- it takes from the potential, a cut one 42.
+abbrev pub perPut : ℕ
+perPut = 20
+
+abbrev pub perChange : ℕ
+perChange = 7
+
+abbrev pub perCut : ℕ
+perCut = 42
+
+-- what the line writes among the first n steps cost
+abbrev pub spent : List Step → ℕ → ℕ
+spent l n = perLine * lineWrites (stepsOf l) n
+
+-- The list l brings the image w, sound with the chain bs, to the entries m. Run whole it costs at most `price` more
+-- than it takes from the potential.
 pub record Served (rule : Rule) (w : ℕ → ℕ) (N : ℕ) (bs : List ℕ) (l : List Step) (m : List Entry) (price : ℕ) : Type 0 where
   pub proper : Each (Proper N) l
   pub settled : AllSettled rule (stepsOf l) (length l)
   pub whole : Left N (run upd (stepsOf l) w (length l)) m (spent l (length l)) (phi (view w) bs + price)
   pub cuts : (n : ℕ) (a : ℕ → ℕ) → n ≤ length l → Permitted line rule (stepsOf l) n a
-      → Left N (cut upd line (stepsOf l) a w n) (listOf (view w) bs) (spent l n) (phi (view w) bs + 42)
-      ⊎ Left N (cut upd line (stepsOf l) a w n) m (spent l n) (phi (view w) bs + 42)
+      → Left N (cut upd line (stepsOf l) a w n) (listOf (view w) bs) (spent l n) (phi (view w) bs + perCut)
+      ⊎ Left N (cut upd line (stepsOf l) a w n) m (spent l n) (phi (view w) bs + perCut)

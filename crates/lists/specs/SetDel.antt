@@ -29,11 +29,13 @@ use Rattle.image.specs.CountLaws.{filled-count}
 use Rattle.image.specs.Entries.{listOf}
 use Rattle.image.specs.Potential.{phi}
 use Rattle.image.specs.PotentialLaws.{phi-fewer, phi-unlink}
-use Rattle.image.specs.WordCalls.{setWords, delWords, unlinkWords, set-only, del-only, set-words, set-count, del-words}
+use Rattle.image.specs.WordCalls.{setWords, delWords, unlinkWords, set-only, del-only, set-words, set-count}
+use Rattle.image.specs.WordCalls.{del-words}
 use Rattle.image.specs.WordCalls.{del-count, unlink-only, unlink-view, unlink-words}
 use Rattle.image.specs.Answers.{put-list, del-list}
-use Rattle.lists.specs.Lists.{wordPlace, valPlace, sibPlace, lowWord, headIn, setList, unlinkList, clearList, isAlone, delList}
-use Rattle.lists.specs.Served.{Small, Served}
+use Rattle.lists.specs.Lists.{wordPlace, valPlace, sibPlace, lowWord, headIn, setList, unlinkList, clearList}
+use Rattle.lists.specs.Lists.{isAlone, delList}
+use Rattle.lists.specs.Served.{perChange, Small, Served}
 use Rattle.lists.specs.Headers.{low-small, under-low, under-cleared}
 use Rattle.lists.specs.Joined.{section-served}
 
@@ -41,9 +43,9 @@ module _ (rule : Rule) (L : Lawful rule) (w : ℕ → ℕ) (N : ℕ) (bs : List 
   -- one store, after which the image is right and its potential no higher
   one-served : (p v : ℕ) → p < 32 * N → v < 2 ^ 64 → (cs : List ℕ) → Sound (view (upd w p v)) N cs
       → phi (view (upd w p v)) cs ≤ phi (view w) bs
-      → Served rule w N bs (oneStore p v) (listOf (view (upd w p v)) cs) 7
+      → Served rule w N bs (oneStore p v) (listOf (view (upd w p v)) cs) perChange
   one-served p v inside small cs sound less =
-      section-served rule L w N bs S (oneStore p v) (listOf (view (upd w p v)) cs) 7
+      section-served rule L w N bs S (oneStore p v) (listOf (view (upd w p v)) cs) perChange
       ((inside, small), (omega arith, (tt, tt)))
       (one-line-section line (λ p q e. e) rule L (Harmless w bs) [] p v tt)
       (upd w p v)
@@ -67,7 +69,7 @@ module _ (rule : Rule) (L : Lawful rule) (w : ℕ → ℕ) (small : Small w) (N 
     inside = near-block (view w) N xs b ys S some
 
     pub set-served : (v : ℕ) → v < 2 ^ 64
-        → Served rule w N (xs ++ (b ∷ ys)) (setList b s v) (putIn (view w b .key s) v (listOf (view w) (xs ++ (b ∷ ys)))) 7
+        → Served rule w N (xs ++ (b ∷ ys)) (setList b s v) (putIn (view w b .key s) v (listOf (view w) (xs ++ (b ∷ ys)))) perChange
     unfolding setList
     set-served v h =
         let c = set-words w N xs b ys S s v taken in
@@ -83,7 +85,7 @@ module _ (rule : Rule) (L : Lawful rule) (w : ℕ → ℕ) (small : Small w) (N 
         (record { low = block w b 0; small = block-small w small b 0; is = refl }))
 
     pub clear-served : (b ≡ 0) ⊎ (1 < count (view w b))
-        → Served rule w N (xs ++ (b ∷ ys)) (clearList w b s) (without (view w b .key s) (listOf (view w) (xs ++ (b ∷ ys)))) 7
+        → Served rule w N (xs ++ (b ∷ ys)) (clearList w b s) (without (view w b .key s) (listOf (view w) (xs ++ (b ∷ ys)))) perChange
     unfolding clearList
     clear-served more =
         let c = del-words w N xs b ys S s low taken head more in
@@ -100,7 +102,7 @@ module _ (rule : Rule) (L : Lawful rule) (w : ℕ → ℕ) (small : Small w) (N 
   pub unlink-served : (xs : List ℕ) (p b : ℕ) (ys : List ℕ) → Sound (view w) N (xs ++ (p ∷ b ∷ ys)) → (s : ℕ)
       → Taken (view w b) s → count (view w b) ≡ 1
       → Served rule w N (xs ++ (p ∷ b ∷ ys)) (unlinkList w p b)
-      (without (view w b .key s) (listOf (view w) (xs ++ (p ∷ b ∷ ys)))) 7
+      (without (view w b .key s) (listOf (view w) (xs ++ (p ∷ b ∷ ys)))) perChange
   unfolding unlinkList view
   unlink-served xs p b ys S s taken alone =
       let c = unlink-words w N xs p b ys S s taken alone in
@@ -121,13 +123,13 @@ pub record Behind (xs : List ℕ) (p : ℕ) : Type 0 where
 pub del-served : (rule : Rule) → Lawful rule → (w : ℕ → ℕ) → Small w → (N : ℕ) → 0 < N
     → (xs : List ℕ) (p b : ℕ) (ys : List ℕ) → Sound (view w) N (xs ++ (b ∷ ys)) → (b ≢ 0 → Behind xs p)
     → (s : ℕ) → Taken (view w b) s
-    → Served rule w N (xs ++ (b ∷ ys)) (delList w p b s) (without (view w b .key s) (listOf (view w) (xs ++ (b ∷ ys)))) 7
+    → Served rule w N (xs ++ (b ∷ ys)) (delList w p b s) (without (view w b .key s) (listOf (view w) (xs ++ (b ∷ ys)))) perChange
 unfolding delList isAlone
 del-served rule L w small N some xs p b ys S before s taken =
     by-test
     (λ t. isAlone w b ≡ t
     → Served rule w N (xs ++ (b ∷ ys)) (cond t (unlinkList w p b) (clearList w b s))
-    (without (view w b .key s) (listOf (view w) (xs ++ (b ∷ ys)))) 7)
+    (without (view w b .key s) (listOf (view w) (xs ++ (b ∷ ys)))) perChange)
     (isAlone w b)
     (λ t e.
     let x = both-true (not (eqb b 0)) (eqb (count (view w b)) 1) e in

@@ -1,6 +1,6 @@
--- How long the lists are: set and del 3 steps, a plain put 5 or at most 14, the split 42, a put at most 56; and their line
--- writes: 1, 1 or 2, 6, at most 8.
-use Prim.Native.Nat.{ℕ, zero, suc, _+_, _-_, _*_, _≤_, _<_}
+-- How long the lists are: set and del 3 steps, a plain put 5 or at most 14, the split 42, a put at most 56; and their
+-- line writes: 1, 1 or 2, 6, at most 8.
+use Prim.Native.Nat.{ℕ, zero, suc, _+_, _*_, _≤_, _<_}
 use native.Mathlib.Decide.{decLt}
 use native.Mathlib.Omega.{arith}
 use mathlib.Core.Bool.{Bool, true, false, cond}
@@ -9,23 +9,25 @@ use mathlib.Core.Path.{_≡_, refl, _∙_}
 use lib.ListN.{length, length-append, length-drop}
 use borrow.Author.Tests.{lt-ltb, le-ltb}
 use Rattle.words.specs.Bools.{by-test}
-use Rattle.header.specs.Header.{altIn}
 use Rattle.leaf.specs.Leaf.{Leaf, occIn, view}
 use Rattle.leaf.specs.Search.{leastFrom, lowestVacant}
 use Rattle.leaf.specs.SearchLaws.{vacant-at}
 use Rattle.leaf.specs.declared.search.Slot.{Slot}
 use Rattle.leaf.specs.declared.search.Slot.the-variants.{At, Missing}
-use Rattle.steps.specs.declared.Step.{Step}
 use Rattle.steps.specs.declared.Step.the-variants.{Store as store}
 use Rattle.steps.specs.Lists.{Each, each-append}
 use Rattle.steps.specs.CallShapes.{storesFrom, stores-length}
 use Rattle.image.specs.Copies.{Copy}
 use Rattle.image.specs.Order.{onward, slotsFrom, slotsOf}
 use Rattle.image.specs.Blocks.{view-size}
-use Rattle.lists.specs.Lists.{wordPlace, sibPlace, lowWord, headIn, copySteps, copiesBeside}
-use Rattle.lists.specs.Lists.{filledHead, farStores, farBacks, highStore, setList, unlinkList, clearList, isAlone, delList, nearPut, farPut, putAt}
+use Rattle.lists.specs.Lists.{wordPlace, lowWord, headIn, copySteps, copiesBeside}
+use Rattle.lists.specs.Lists.{farStores, farBacks, setList, unlinkList, clearList, isAlone, delList, nearPut}
+use Rattle.lists.specs.Lists.{farPut, putAt}
 use Rattle.lists.specs.Lists.{putFound, plainPut}
-use Rattle.lists.specs.FullLists.{splitStores, splitBacks, switchedHead, movedSlots, goesUp, newWords, splitList, putBelow, fullPut, after, entryWords, putInto, putList}
+use Rattle.lists.specs.FullLists.{splitStores, splitBacks, switchedHead, movedSlots, goesUp, newWords}
+use Rattle.lists.specs.FullLists.{linkStore, splitList, putBelow, fullPut, after, entryWords, putInto}
+use Rattle.lists.specs.FullLists.{putList}
+use Rattle.steps.specs.Shapes.{twoParts}
 use Rattle.lists.specs.Served.{linesOf}
 use Rattle.lists.specs.Parts.{lines-append, IsStore, stores-lines, parts-length, parts-lines}
 use Rattle.lists.specs.Beside.{beside-few}
@@ -61,16 +63,23 @@ copies-stores L b [] = tt
 copies-stores L b (c ∷ cs) = (tt, (tt, copies-stores L b cs))
 
 module _ (h : ℕ) (L : Leaf) (b s k v : ℕ) where
+  far-any : (q x p y : ℕ) → 3 ≤ s → s < 14
+      → length (twoParts (farStores h L b s k v) (farBacks b s) (store q x ∷ []) p y) ≤ 14
+  far-any q x p y past slot =
+      omega (arith, parts-length (farStores h L b s k v) (farBacks b s) (store q x ∷ []) p y, beside-few h b s L past slot)
+
+  lines-any : (q x p y : ℕ) → linesOf (twoParts (farStores h L b s k v) (farBacks b s) (store q x ∷ []) p y) ≡ 2
+  lines-any q x p y =
+      parts-lines (farStores h L b s k v) (farBacks b s) (store q x ∷ []) p y
+      ∙ omega (arith, stores-lines (farStores h L b s k v) (tt, (tt, copies-stores L b (copiesBeside h s))))
+
   pub far-length : 3 ≤ s → s < 14 → length (farPut h L b s k v) ≤ 14
   unfolding farPut
-  far-length past slot =
-      omega (arith, parts-length (farStores h L b s k v) (farBacks b s) (highStore h L b s k) (wordPlace b 0) (lowWord (filledHead h L s k)), beside-few h b s L past slot)
+  far-length = far-any _ _ _ _
 
   pub far-lines : linesOf (farPut h L b s k v) ≡ 2
   unfolding farPut
-  far-lines =
-      parts-lines (farStores h L b s k v) (farBacks b s) (highStore h L b s k) (wordPlace b 0) (lowWord (filledHead h L s k))
-      ∙ omega (arith, stores-lines (farStores h L b s k v) (tt, (tt, copies-stores L b (copiesBeside h s))))
+  far-lines = lines-any _ _ _ _
 
   at-size : s < 14 → (length (putAt h L b s k v) ≤ 14) × (linesOf (putAt h L b s k v) ≤ 2)
   unfolding putAt
@@ -122,9 +131,6 @@ module _ (w : ℕ → ℕ) (b c k v : ℕ) where
   abbrev words : List ℕ
   words = newWords (goesUp (view w b) k) (view w b) (movedSlots (view w b)) k v
 
-  abbrev link : List Step
-  link = store (sibPlace b (1 - altIn (headIn w b))) c ∷ []
-
   -- 42 where seven move
   pub split-length : length (splitList w b c k v) ≡ 28 + 2 * length (movedSlots (view w b))
   unfolding splitList
@@ -132,7 +138,7 @@ module _ (w : ℕ → ℕ) (b c k v : ℕ) where
       omega (
         arith,
         parts-length (splitStores w b c k v) (splitBacks b c) [] (wordPlace b 0) (lowWord (switchedHead w b)),
-        length-append (storesFrom (wordPlace c 0) words) link,
+        length-append (storesFrom (wordPlace c 0) words) (linkStore w b c),
         stores-length (wordPlace c 0) words,
         new-length (goesUp (view w b) k) (view w b) (movedSlots (view w b)) k v,
       )
@@ -144,7 +150,7 @@ module _ (w : ℕ → ℕ) (b c k v : ℕ) where
       ∙ omega (
         arith,
         stores-lines (splitStores w b c k v)
-            (each-append IsStore (storesFrom (wordPlace c 0) words) link (row-stores (wordPlace c 0) words) (tt, tt)),
+            (each-append IsStore (storesFrom (wordPlace c 0) words) (linkStore w b c) (row-stores (wordPlace c 0) words) (tt, tt)),
       )
 
   below-size : (t : Bool) → (length (putBelow t w b c k v) ≤ 14) × (linesOf (putBelow t w b c k v) ≤ 2)
