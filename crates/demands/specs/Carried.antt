@@ -19,25 +19,31 @@ use Rattle.steps.specs.Refusals.{badImage}
 use Rattle.machine.specs.Calls.{storeWord, arrived, runOf, cutOf}
 use Rattle.machine.specs.Fits.{Passed}
 use Rattle.machine.specs.CallLaws.{run-accepted, cut-passed, cut-accepted, written-passed}
-use Rattle.image.specs.Map.{Entry}
+use Rattle.image.specs.Map.{Entry, lookup}
 use Rattle.image.specs.Entries.{listOf}
 use Rattle.image.specs.Potential.{phi}
-use Rattle.image.specs.Image.{blocks, leaves}
+use Rattle.image.specs.Image.{leaves, SoundImage}
 use Rattle.image.specs.ImageLaws.{good-length}
 use Rattle.index.specs.Reading.{entriesIn}
 use Rattle.index.specs.SoundTest.{sound-chain}
+use Rattle.index.specs.Agreement.{foundIn, find-accepted, listing-accepted}
 use Rattle.lists.specs.Served.{spent}
 use Rattle.lists.specs.Bytes.{LeftBytes, ServedBytes}
-use Rattle.demands.specs.Holds.{Holds}
+use Rattle.demands.specs.Holds.{listingIn, Holds}
 
 -- an image that a list leaves holds the entries promised
 pub left-holds : (l m : List ℕ) (es : List Entry) (cost bound : ℕ) → badImage (length l) ≡ false → LeftBytes l m es cost bound → Holds m es
 unfolding entriesIn
 left-holds l m es cost bound fine L =
     let f : badImage (length m) ≡ false = ap badImage (L .long) ∙ fine in
+    let s : SoundImage m = record { chain = L .left .chain; sound = L .left .sound } in
+    let q : entriesIn m ≡ es = ap (listOf (leaves m)) (sound-chain m (L .left .chain) f (L .left .sound)) ∙ L .left .list in
     record {
-      sound = record { chain = L .left .chain; sound = L .left .sound };
-      map = ap (listOf (leaves m)) (sound-chain m (L .left .chain) f (L .left .sound)) ∙ L .left .list;
+      fine = f;
+      sound = s;
+      entries = q;
+      finds = λ k. find-accepted m f s k ∙ ap (λ (fs : List Entry). foundIn (lookup k fs)) q;
+      lists = λ from ks vs. listing-accepted m f s from ks vs ∙ ap (λ (fs : List Entry). listingIn fs from ks vs) q;
     }
 
 module _ (l list : List ℕ) (t : List Step) (bs : List ℕ) (es : List Entry) (price : ℕ) (fine : badImage (length l) ≡ false)

@@ -1,12 +1,26 @@
--- What an image left by a call is held against.
+-- What an image left by a call is held against. To be believed.
 use mathlib.Core.Path.{_≡_}
-use mathlib.Core.List.{List}
-use Prim.Native.Nat.{ℕ}
-use Rattle.image.specs.Map.{Entry}
+use mathlib.Core.Bool.{false}
+use mathlib.Core.List.{List, map}
+use Prim.Native.Nat.{ℕ, min}
+use lib.ListN.{length, take}
+use Rattle.steps.specs.Refusals.{badImage}
+use Rattle.image.specs.Map.{Entry, lookup, startingAt}
 use Rattle.image.specs.Image.{SoundImage}
-use Rattle.index.specs.Reading.{entriesIn}
+use Rattle.index.specs.Reading.{entriesIn, findOf, Listing, over, counted, listingIs, listingOf}
+use Rattle.index.specs.Agreement.{foundIn}
 
--- the image is sound, and its map, as a rising list, is m
+-- "keys and values, rising, of entries with that key or above, as many as the shorter of two lent buffers holds": of the plain map m
+abbrev pub listingIn : List Entry → ℕ → List ℕ → List ℕ → Listing
+listingIn m from ks vs =
+    let es = take (min (length ks) (length vs)) (startingAt from m) in
+    listingIs (counted 0 (length es)) (over (map (λ e. e .key) es) ks) (over (map (λ e. e .val) es) vs)
+
+-- The image is sound, of a length that no call refuses, and its map, as a rising list, is m: so any later call starts from a sound
+-- image, and find and listing answer from m.
 pub record Holds (image : List ℕ) (m : List Entry) : Type 0 where
+  pub fine : badImage (length image) ≡ false
   pub sound : SoundImage image
-  pub map : entriesIn image ≡ m
+  pub entries : entriesIn image ≡ m
+  pub finds : (k : ℕ) → findOf image k ≡ foundIn (lookup k m)
+  pub lists : (from : ℕ) (ks vs : List ℕ) → listingOf image from ks vs ≡ listingIn m from ks vs
