@@ -5,3 +5,4 @@ pub mod Carried
 pub mod Accepted
 pub mod Demand2
 pub mod Demand3
+pub mod Tight
