@@ -137,7 +137,7 @@ fn append_copies(
         × (r ≡ length (copiesBeside (bitsOf head) s)) × (r ≤ 3) ⌝ }
 {
     let last = last_beside(s);
-    let mut from = 0;
+    let mut from: usize = 0;
     let mut t = s + 1;
     while t <= last {
         from = append_copy(list, at + 2 * from, head, leaf, block, from, t);

@@ -2,3 +2,4 @@
 pub mod Halves
 pub mod Heads
 pub mod Stores
+pub mod Full
