@@ -1,12 +1,11 @@
 -- Steps written into a list from its step i on, and the list that this leaves.
-use Prim.Native.Nat.{ℕ, zero, suc, _+_, _*_, _≤_}
+use Prim.Native.Nat.{ℕ, suc, _+_, _*_, _≤_}
 use native.Mathlib.Omega.{arith}
-use native.Mathlib.Numerals.{add-one}
 use mathlib.Core.List.{List, [], _∷_, _++_, append-assoc}
 use mathlib.Core.Path.{_≡_, refl, sym, ap, _∙_}
-use lib.ListN.{length, drop, length-append, length-set}
+use lib.ListN.{length, length-append, length-set}
 use Rattle.steps.specs.declared.Step.{Step}
-use Rattle.steps.specs.Encoding.{written, putStep, encode}
+use Rattle.steps.specs.Encoding.{written, putStep}
 use Rattle.steps.specs.EncodingLaws.{written-next}
 use Rattle.lists.specs.Lists.{wordPlace}
 

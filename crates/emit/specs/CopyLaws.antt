@@ -36,10 +36,12 @@ copies-more occ i t (suc n) =
     by-test (λ b. step b (copies occ i (suc t) (suc n)) (copies occ (suc i) (suc t) (suc n))
     ≡ step b (copies occ i (suc t) n) (copies occ (suc i) (suc t) n)
     ++ copies occ (i + length (step b (copies occ i (suc t) n) (copies occ (suc i) (suc t) n))) (t + suc n) 1) (occ t)
-    (λ e. copies-more occ i (suc t) n ∙ ap (λ (u : ℕ). copies occ i (suc t) n ++ copies occ (i + length (copies occ i (suc t) n)) u 1) (on t))
+    (λ e. copies-more occ i (suc t) n
+    ∙ ap (λ (u : ℕ). copies occ i (suc t) n ++ copies occ (i + length (copies occ i (suc t) n)) u 1) (on t))
     (λ e. ap (λ (r : List Copy). record { from = i; to = t } ∷ r)
     (copies-more occ (suc i) (suc t) n
-    ∙ ap₂ (λ (j u : ℕ). copies occ (suc i) (suc t) n ++ copies occ j u 1) (on-from (length (copies occ (suc i) (suc t) n))) (on t)))
+    ∙ ap₂ (λ (j u : ℕ). copies occ (suc i) (suc t) n ++ copies occ j u 1)
+    (on-from (length (copies occ (suc i) (suc t) n))) (on t)))
   where
     step : Bool → List Copy → List Copy → List Copy
     step b x y = cond b x (record { from = i; to = t } ∷ y)
@@ -54,7 +56,8 @@ pub copies-most : (occ : ℕ → Bool) (i t n : ℕ) → length (copies occ i t 
 unfolding copies
 copies-most occ i t zero = omega arith
 copies-most occ i t (suc n) =
-    by-test (λ b. length (cond b (copies occ i (suc t) n) (record { from = i; to = t } ∷ copies occ (suc i) (suc t) n)) ≤ suc n) (occ t)
+    by-test (λ b. length (cond b (copies occ i (suc t) n)
+    (record { from = i; to = t } ∷ copies occ (suc i) (suc t) n)) ≤ suc n) (occ t)
     (λ e. omega (arith, copies-most occ i (suc t) n))
     (λ e. omega (arith, copies-most occ (suc i) (suc t) n))
 
@@ -62,7 +65,8 @@ copies-most occ i t (suc n) =
 module _ (L : Leaf) where
   pub steps-append : (b : ℕ) (k l : List Copy) → copySteps L b (k ++ l) ≡ copySteps L b k ++ copySteps L b l
   steps-append b [] l = refl
-  steps-append b (c ∷ k) l = ap (λ (r : List Step). entrySteps b (c .to) (L .key (c .from)) (L .val (c .from)) ++ r) (steps-append b k l)
+  steps-append b (c ∷ k) l = ap (λ (r : List Step). entrySteps b (c .to) (L .key (c .from)) (L .val (c .from)) ++ r)
+      (steps-append b k l)
 
   pub steps-length : (b : ℕ) (k : List Copy) → length (copySteps L b k) ≡ 2 * length k
   steps-length b [] = refl
@@ -131,7 +135,8 @@ module _ (h : ℕ) (L : Leaf) (b s at : ℕ) (before : List ℕ) where
       copied-more h s t l ∙ ap (λ (i : ℕ). copied h s t ++ copies (occIn h) i t 1) (sym (c .number)) in
       let n : length (copySteps L b (copied h s t)) ≡ 2 * length (copied h s t) = steps-length L b (copied h s t) in
       record {
-        steps = stretch-more before list at (at + 2 * from) (copySteps L b (copied h s t)) (c .steps) (omega (arith, c .number)) r
+        steps = stretch-more before list at (at + 2 * from) (copySteps L b (copied h s t)) (c .steps)
+            (omega (arith, c .number)) r
             (copySteps L b ds) (x .0)
             ∙ ap (appended before at) (sym (ap (copySteps L b) e ∙ steps-append L b (copied h s t) ds));
         number = x .1 ∙ ap (λ (m : ℕ). m + length ds) (c .number) ∙ sym (ap length e ∙ length-append (copied h s t) ds);
@@ -165,7 +170,8 @@ module _ (h : ℕ) (L : Leaf) (s k : ℕ) where
     filled-on ds g j e q n m =
         let d : copied h s (t + 1) ≡ copied h s t ++ ds = same ∙ ap (λ (x : List Copy). copied h s t ++ x) e in
         record {
-          bits = q ∙ ap (λ (x : ℕ). copiedHead L x ds) (c .bits) ∙ sym (ap (copiedHead L first) d ∙ head-append L first (copied h s t) ds);
+          bits = q ∙ ap (λ (x : ℕ). copiedHead L x ds) (c .bits) ∙ sym (ap (copiedHead L first) d
+              ∙ head-append L first (copied h s t) ds);
           number = n ∙ ap (λ (x : ℕ). x + length ds) (c .number) ∙ sym (ap length d ∙ length-append (copied h s t) ds);
           few = omega (arith, c .few);
         }
@@ -176,7 +182,8 @@ module _ (h : ℕ) (L : Leaf) (s k : ℕ) where
     pub filled-taken : (g j : ℕ) → occIn h t ≡ true → g ≡ f → j ≡ from → FilledTo h L s k (t + 1) g j
     filled-taken g j e q n = filled-on [] g j (copies-taken (occIn h) from t e) q (omega arith) (omega arith)
 
-    pub filled-vacant : (g j : ℕ) → occIn h t ≡ false → g ≡ marked (cleared f from) t (fingerprintOf (L .key from)) → j ≡ from + 1
+    pub filled-vacant : (g j : ℕ) → occIn h t ≡ false → g ≡ marked (cleared f from) t (fingerprintOf (L .key from))
+        → j ≡ from + 1
         → FilledTo h L s k (t + 1) g j
     filled-vacant g j e q n =
         filled-on (record { from = from; to = t } ∷ []) g j (copies-vacant (occIn h) from t e) q n (omega arith)

@@ -1,5 +1,5 @@
 -- The plain put, put together from its stretches.
-use Prim.Native.Nat.{ℕ, suc, _+_, _-_, _*_, _≤_, _<_}
+use Prim.Native.Nat.{ℕ, _+_, _*_, _≤_, _<_}
 use native.Mathlib.Omega.{arith}
 use borrow.Author.Tests.{lt-ltb, le-ltb}
 use mathlib.Core.List.{List, [], _∷_, _++_, append-assoc}
@@ -44,7 +44,8 @@ module _ (h : ℕ) (L : Leaf) (b s k v : ℕ) where
       let S = settling (line (keyPlace b s)) in
       let m : length (E ++ C) ≡ 2 + 2 * n = omega (arith, length-append E C, steps-length L b (copiesBeside h s)) in (
         stretch-more l0 l3 at (at + 2 + 2 * n + 2) ((E ++ C) ++ S)
-            (stretch-more l0 l2 at (at + 2 + 2 * n) (E ++ C) (stretch-more l0 l1 at (at + 2) E e1 refl l2 C e2) (omega arith) l3 S e3)
+            (stretch-more l0 l2 at (at + 2 + 2 * n) (E ++ C) (stretch-more l0 l1 at (at + 2) E e1 refl l2 C e2)
+            (omega arith) l3 S e3)
             (omega (arith, length-append (E ++ C) S))
             l4
             (headerSteps b g)
@@ -64,7 +65,8 @@ module _ (h : ℕ) (L : Leaf) (b s k v : ℕ) where
   unfolding putAt
   put-far l = rw (le-ltb s 3 l)
 
-  -- the slot that was found
-  pub put-found : (x : Slot) → x ≡ lowestVacant (occIn h) 14 → putFound x h L b k v ≡ plainPut h L b k v
-  unfolding plainPut
-  put-found x e = ap (λ (y : Slot). putFound y h L b k v) e
+-- the slot that was found
+pub put-found : (h : ℕ) (L : Leaf) (b k v : ℕ) (x : Slot) → x ≡ lowestVacant (occIn h) 14
+    → putFound x h L b k v ≡ plainPut h L b k v
+unfolding plainPut
+put-found h L b k v x e = ap (λ (y : Slot). putFound y h L b k v) e

@@ -11,7 +11,7 @@ use leaf::search::value_at;
 use machine::list::put_step;
 use steps::Step;
 ghost use mathlib.Core.Path.{_≡_};
-ghost use Prim.Native.Nat.{ℕ, _+_, _*_, _≤_, _<_};
+ghost use Prim.Native.Nat.{_+_, _*_, _≤_, _<_};
 ghost use lib.ListN.{length};
 ghost use Rattle.header.specs.Header.{bitsOf, marked, cleared, fingerprintOf};
 ghost use Rattle.leaf.specs.Leaf.{leafIn, occIn};

@@ -1,5 +1,5 @@
 -- The put into a full leaf, whole.
-use Prim.Native.Nat.{ℕ, _+_, _*_, _≤_, _<_}
+use Prim.Native.Nat.{ℕ, _+_, _≤_}
 use native.Mathlib.Omega.{arith}
 use mathlib.Core.Bool.{Bool, true, false}
 use mathlib.Core.List.{List, [], _∷_, _++_}
@@ -35,12 +35,14 @@ FullPut h L b c k v before behind r =
     (w : ℕ → ℕ) → Holds h L b c w → (behind ≡ written (fullPut w b c k v) before) × (r ≡ length (fullPut w b c k v))
 
 -- whether the new key goes up, by the first of the moved slots
-pub up-is : (L : Leaf) (ss : List ℕ) (k x : ℕ) → ss ≡ movedSlots L → length ss ≡ 7 → x ≡ L .key (getD ss 0 0) → ltb x k ≡ goesUp L k
+pub up-is : (L : Leaf) (ss : List ℕ) (k x : ℕ) → ss ≡ movedSlots L → length ss ≡ 7 → x ≡ L .key (getD ss 0 0)
+    → ltb x k ≡ goesUp L k
 unfolding goesUp
 up-is L [] k x e n q = absurd (omega arith)
 up-is L (s ∷ ss) k x e n q = ap₂ (λ (y : ℕ) (r : List ℕ). ltb y k) q e ∙ ap (λ (r : List ℕ). ltb (firstKey L r) k) e
 
-module _ (h : ℕ) (L : Leaf) (b c k v : ℕ) (before : List ℕ) (room : 112 ≤ length before) (seven : length (movedSlots L) ≡ 7) where
+module _ (h : ℕ) (L : Leaf) (b c k v : ℕ) (before : List ℕ) (room : 112 ≤ length before)
+    (seven : length (movedSlots L) ≡ 7) where
   long : (w : ℕ → ℕ) → view w b ≡ L → length (splitList w b c k v) ≡ 42
   long w e = split-length w b c k v ∙ omega (arith, ap (λ (M : Leaf). length (movedSlots M)) e)
 
@@ -48,26 +50,30 @@ module _ (h : ℕ) (L : Leaf) (b c k v : ℕ) (before : List ℕ) (room : 112 �
   nil [] = refl
   nil (x ∷ l) = ap (λ (r : List Step). x ∷ r) (nil l)
 
-  pub full-up : (l : List ℕ) → true ≡ goesUp L k → ((w : ℕ → ℕ) → headIn w b ≡ h → view w b ≡ L → l ≡ written (splitList w b c k v) before)
+  pub full-up : (l : List ℕ) → true ≡ goesUp L k → ((w : ℕ → ℕ) → headIn w b ≡ h → view w b ≡ L
+      → l ≡ written (splitList w b c k v) before)
       → FullPut h L b c k v before l 42
   unfolding fullPut
   full-up l u f = λ w y.
       let e : splitList w b c k v ≡ fullPut w b c k v =
       nil (splitList w b c k v)
-      ∙ ap (λ (t : Bool). splitList w b c k v ++ putBelow t w b c k v) (u ∙ ap (λ (M : Leaf). goesUp M k) (sym (y .leaf))) in (
+      ∙ ap (λ (t : Bool). splitList w b c k v ++ putBelow t w b c k v) (u
+      ∙ ap (λ (M : Leaf). goesUp M k) (sym (y .leaf))) in (
         f w (y .head) (y .leaf) ∙ ap (λ (r : List Step). written r before) e,
         sym (long w (y .leaf)) ∙ ap (λ (r : List Step). length r) e,
       )
 
   pub full-below : (l1 l2 ss : List ℕ) (g n : ℕ) → false ≡ goesUp L k
-      → ((w : ℕ → ℕ) → headIn w b ≡ h → view w b ≡ L → l1 ≡ written (splitList w b c k v) before) → g ≡ flipped (clearedAll h ss)
+      → ((w : ℕ → ℕ) → headIn w b ≡ h → view w b ≡ L → l1 ≡ written (splitList w b c k v) before)
+      → g ≡ flipped (clearedAll h ss)
       → ss ≡ movedSlots L → Wrote l1 42 (plainPut g L b k v) l2 n → FullPut h L b c k v before l2 (42 + n)
   unfolding fullPut
   full-below l1 l2 ss g n u f eg es x = λ w y.
       let S = splitList w b c k v in
       let P = putBelow false w b c k v in
       let p : plainPut g L b k v ≡ P =
-      ap₂ (λ (m : ℕ) (M : Leaf). plainPut m M b k v) (eg ∙ switched-same w b c k v h L ss (y .head) (y .leaf) es) (sym (y .leaf))
+      ap₂ (λ (m : ℕ) (M : Leaf). plainPut m M b k v) (eg
+      ∙ switched-same w b c k v h L ss (y .head) (y .leaf) es) (sym (y .leaf))
       ∙ sym (plain-after w (y .words) b c (y .apart) (y .right) (y .full) k v) in
       let m : n ≡ length P = x .1 ∙ ap (λ (r : List Step). length r) p in
       let d = length-append S P in

@@ -23,14 +23,16 @@ stores-append : (q : ℕ) (vs ws : List ℕ) → storesFrom q (vs ++ ws) ≡ sto
 stores-append q [] ws = let e : q ≡ q + 0 = omega arith in ap (λ (p : ℕ). storesFrom p ws) e
 stores-append q (v ∷ vs) ws =
     let e : suc q + length vs ≡ q + suc (length vs) = omega arith in
-    ap (λ (r : List Step). store q v ∷ r) (stores-append (suc q) vs ws ∙ ap (λ (p : ℕ). storesFrom (suc q) vs ++ storesFrom p ws) e)
+    ap (λ (r : List Step). store q v ∷ r) (stores-append (suc q) vs ws
+    ∙ ap (λ (p : ℕ). storesFrom (suc q) vs ++ storesFrom p ws) e)
 
 stores-length : (q : ℕ) (vs : List ℕ) → length (storesFrom q vs) ≡ length vs
 stores-length q [] = refl
 stores-length q (v ∷ vs) = ap suc (stores-length (suc q) vs)
 
 -- more words behind those stored
-pub stores-more : (list m r : List ℕ) (i j p q : ℕ) (vs ws : List ℕ) → m ≡ appended list i (storesFrom p vs) → j ≡ i + length vs
+pub stores-more : (list m r : List ℕ) (i j p q : ℕ) (vs ws : List ℕ) → m ≡ appended list i (storesFrom p vs)
+    → j ≡ i + length vs
     → q ≡ p + length vs → r ≡ appended m j (storesFrom q ws) → r ≡ appended list i (storesFrom p (vs ++ ws))
 stores-more list m r i j p q vs ws e a b f =
     stretch-more list m i j (storesFrom p vs) e (omega (arith, stores-length p vs)) r (storesFrom q ws) f
@@ -51,7 +53,8 @@ unfolding appended
 zeros-end list whole at p i e q = let a : 12 - i ≡ 0 = omega arith in rw a at q
 
 pub entries-start : (list : List ℕ) (at p : ℕ) (L : Leaf) (ss : List ℕ)
-    → appended list (at + 2 * 0) (storesFrom (p + 2 * 0) (entryWords L (drop 0 ss))) ≡ appended list at (storesFrom p (entryWords L ss))
+    → appended list (at + 2 * 0) (storesFrom (p + 2 * 0) (entryWords L (drop 0 ss))) ≡ appended list at
+    (storesFrom p (entryWords L ss))
 entries-start list at p L ss =
     let a : at + 2 * 0 ≡ at = omega arith in
     let b : p + 2 * 0 ≡ p = omega arith in ap₂ (λ (i q : ℕ). appended list i (storesFrom q (entryWords L ss))) a b
@@ -105,7 +108,8 @@ new-leaf l0 l1 l2 l3 p up L ss k v h x y n seven e1 e2 e3 eh ex ey en =
     (omega (arith, entry-length L ss))
     (omega (arith, entry-length L ss))
     e3
-    ∙ ap₂ (λ (g m : ℕ). appended l0 0 (storesFrom p (lowWord g ∷ highWord g ∷ (replicate 12 0 ++ (x ∷ y ∷ (entryWords L ss ++ (m ∷ 0 ∷ [])))))))
+    ∙ ap₂ (λ (g m : ℕ). appended l0 0 (storesFrom p
+    (lowWord g ∷ highWord g ∷ (replicate 12 0 ++ (x ∷ y ∷ (entryWords L ss ++ (m ∷ 0 ∷ [])))))))
     eh en
     ∙ ap₂ (λ (s t : ℕ).
     appended l0 0 (storesFrom p (lowWord (newHeader up L ss k) ∷ highWord (newHeader up L ss k)
@@ -143,7 +147,8 @@ module _ (w : ℕ → ℕ) (b c k v : ℕ) where
       let S = store q c ∷ [] in
       let B = splitBacks b c ++ fence ∷ [] in
       stretch-more l0 l3 0 39 ((W ++ S) ++ B)
-      (stretch-more l0 l2 0 33 (W ++ S) (stretch-more l0 l1 0 32 W e1 (omega (arith, n)) l2 S (step-first l1 l2 32 (store q c) e2))
+      (stretch-more l0 l2 0 33 (W ++ S) (stretch-more l0 l1 0 32 W e1 (omega (arith, n)) l2 S
+      (step-first l1 l2 32 (store q c) e2))
       (omega (arith, length-append W S))
       l3
       B
@@ -153,6 +158,7 @@ module _ (w : ℕ → ℕ) (b c k v : ℕ) where
       (oneStore p x)
       e4
       ∙ ap (appended l0 0) (append-assoc (W ++ S) B (oneStore p x))
-      ∙ ap₂ (λ (r : List ℕ) (z : ℕ). appended l0 0 ((storesFrom (wordPlace c 0) r ++ (store z c ∷ [])) ++ (B ++ oneStore p x))) ew eq
+      ∙ ap₂ (λ (r : List ℕ) (z : ℕ). appended l0 0
+      ((storesFrom (wordPlace c 0) r ++ (store z c ∷ [])) ++ (B ++ oneStore p x))) ew eq
       ∙ ap₂ (λ (i y : ℕ). appended l0 0 (splitStores w b c k v ++ (B ++ oneStore i y))) ep ex
       ∙ appended-start (splitList w b c k v) l0 (omega (arith, split-length w b c k v, seven))

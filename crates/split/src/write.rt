@@ -140,7 +140,8 @@ pub fn write_split(
     value: u64,
 )
     requires { ⌜ (84 ≤ length (now list)) × (256 ≤ length (now leaf)) × (length (now moved) ≡ 7) × (block < 256) × (new < 256)
-        × (bitsOf head ≡ headAt (now leaf) 0) × (now moved ≡ movedSlots (leafIn (now leaf))) × (up ≡ goesUp (leafIn (now leaf)) key) ⌝ }
+        × (bitsOf head ≡ headAt (now leaf) 0) × (now moved ≡ movedSlots (leafIn (now leaf)))
+        × (up ≡ goesUp (leafIn (now leaf)) key) ⌝ }
     ensures { λ _. ⌜ ((w : ℕ → ℕ) → headIn w block ≡ bitsOf head → view w block ≡ leafIn (now (leaf .entry))
         → now (list .exit) ≡ written (splitList w block new key value) (now (list .entry))) ⌝ }
 {

@@ -31,7 +31,8 @@ returns-2 c =
     turn-vacant (occIn h) (leafIn (a .leaf .now)) (a .block) (a .from) (a .t) (a .at) (a .list .now) _
     (occ-in h (a .t) (omega arith) ∙ sym (o .occupied .ensures) ∙ i .if1 .left)
     (x .append-entry .ensures
-    ∙ ap₂ (λ (p q : ℕ). appended (a .list .now) (a .at) (entrySteps (a .block) (a .t) p q)) (k .key-at .ensures) (v .value-at .ensures))
+    ∙ ap₂ (λ (p q : ℕ). appended (a .list .now) (a .at) (entrySteps (a .block) (a .t) p q)) (k .key-at .ensures)
+    (v .value-at .ensures))
 
 pub append-copy-spec : {M : Type 1} → statement M
 append-copy-spec =

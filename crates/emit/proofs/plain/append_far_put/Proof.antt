@@ -1,6 +1,5 @@
 use borrow.Author.Needs.{needs}
 use native.Mathlib.Omega.{arith}
-use Prim.Native.Nat.{_+_, _*_}
 use Rattle.header.specs.Header.{bitsOf}
 use Rattle.leaf.specs.Leaf.{leafIn}
 use Rattle.emit.specs.PutLaws.{far-put}
@@ -16,8 +15,10 @@ returns c =
     let one = two .before .before .before .before in
     let a = one .before .before .before .before .args in
     let n = two .append-copies .ensures in
-    let r = far-put (bitsOf (a .head)) (leafIn (a .leaf .now)) (a .block) (a .s) (a .key) (a .value) (a .at) (two .append-copies .result)
-    (bitsOf (f .filled-head .result)) (a .list .now) _ _ _ _ (one .append-entry .ensures) (n .0) (n .1) (three .append-settling .ensures)
+    let r = far-put (bitsOf (a .head)) (leafIn (a .leaf .now)) (a .block) (a .s) (a .key) (a .value) (a .at)
+    (two .append-copies .result)
+    (bitsOf (f .filled-head .result)) (a .list .now) _ _ _ _ (one .append-entry .ensures) (n .0) (n .1)
+    (three .append-settling .ensures)
     (f .filled-head .ensures) (four .append-header .ensures) in
     (r .0, r .1, omega (arith, n .2))
 

@@ -1,5 +1,5 @@
 use borrow.Author.Needs.{needs}
-use mathlib.Core.List.{List, [], _∷_, _++_}
+use mathlib.Core.List.{[], _∷_}
 use mathlib.Core.Path.{refl, ap, ap₂, _∙_}
 use Prim.Native.Nat.{ℕ, _+_, _*_}
 use Rattle.header.specs.Header.{bitsOf}
@@ -23,7 +23,8 @@ returns c =
     (oneStore (32 * a .block) (z .word0 .result))
     (b .append-store .ensures)
     ∙ ap₂ (λ (q v : ℕ). appended l (a .at) (x ∷ oneStore q v)) (start-place (a .block)) (z .word0 .ensures)
-    ∙ ap (λ (v : ℕ). appended l (a .at) (Store (wordPlace (a .block) 1) v ∷ oneStore (wordPlace (a .block) 0) (lowWord (bitsOf (a .head))))) (o .word1 .ensures)
+    ∙ ap (λ (v : ℕ). appended l (a .at) (Store (wordPlace (a .block) 1) v ∷ oneStore (wordPlace (a .block) 0)
+    (lowWord (bitsOf (a .head))))) (o .word1 .ensures)
 
 pub append-header-spec : {M : Type 1} → statement M
 append-header-spec =

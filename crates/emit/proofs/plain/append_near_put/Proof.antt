@@ -1,5 +1,5 @@
 use borrow.Author.Needs.{needs}
-use mathlib.Core.List.{List, _++_}
+use mathlib.Core.List.{_++_}
 use mathlib.Core.Path.{refl, ap, ap₂, _∙_}
 use Prim.Native.Nat.{ℕ, _+_, _*_}
 use Rattle.header.specs.Header.{bitsOf, marked}
@@ -23,7 +23,8 @@ returns c =
     (b .append-store .ensures)
     ∙ ap₂ (λ (p v : ℕ). appended l (a .at) (k ++ oneStore p v)) (start-place (a .block))
     (z .word0 .ensures
-    ∙ ap lowWord (m .mark .ensures ∙ ap (λ (f : ℕ). marked (bitsOf (a .head)) (a .s) f) (m .before .fingerprint-of .ensures)))
+    ∙ ap lowWord (m .mark .ensures
+    ∙ ap (λ (f : ℕ). marked (bitsOf (a .head)) (a .s) f) (m .before .fingerprint-of .ensures)))
 
 pub append-near-put-spec : {M : Type 1} → statement M
 append-near-put-spec =

@@ -1,6 +1,6 @@
 use borrow.Author.Needs.{needs}
 use native.Mathlib.Omega.{arith}
-use mathlib.Core.Path.{refl, sym, ap, _∙_}
+use mathlib.Core.Path.{refl, sym, _∙_}
 use Rattle.header.specs.Header.{bitsOf}
 use Rattle.leaf.specs.Leaf.{leafIn, occIn}
 use Rattle.leaf.specs.SearchLaws.{vacant-at}
@@ -31,8 +31,9 @@ returns c =
     let h = bitsOf (a .head) in
     let L = leafIn (a .leaf .now) in
     let g = s .s .given in
-    wrote-as (a .list .now) (a .at) (putFound (At (g .0 .0)) h L (a .block) (a .key) (a .value)) (plainPut h L (a .block) (a .key) (a .value)) _ _
-    (put-found h L (a .block) 0 (a .key) (a .value) (At (g .0 .0)) (sym (g .1) ∙ v .lowest-vacant .ensures))
+    wrote-as (a .list .now) (a .at) (putFound (At (g .0 .0)) h L (a .block) (a .key) (a .value))
+    (plainPut h L (a .block) (a .key) (a .value)) _ _
+    (put-found h L (a .block) (a .key) (a .value) (At (g .0 .0)) (sym (g .1) ∙ v .lowest-vacant .ensures))
     (x .append-put-at .ensures)
 
 returns-2 : tie.Need-returns-2
@@ -42,8 +43,9 @@ returns-2 c =
     let a = v .before .before .before .args in
     let h = bitsOf (a .head) in
     let L = leafIn (a .leaf .now) in
-    wrote-as (a .list .now) (a .at) (putFound Missing h L (a .block) (a .key) (a .value)) (plainPut h L (a .block) (a .key) (a .value)) _ _
-    (put-found h L (a .block) 0 (a .key) (a .value) Missing (sym (c .enum-told .given .1) ∙ v .lowest-vacant .ensures))
+    wrote-as (a .list .now) (a .at) (putFound Missing h L (a .block) (a .key) (a .value))
+    (plainPut h L (a .block) (a .key) (a .value)) _ _
+    (put-found h L (a .block) (a .key) (a .value) Missing (sym (c .enum-told .given .1) ∙ v .lowest-vacant .ensures))
     (refl, refl, omega arith)
 
 pub append-plain-put-spec : {M : Type 1} → statement M

@@ -12,7 +12,8 @@ returns c =
     let x = c .before .before in
     let i = x .before .before in
     let a = i .before .before .before .args in
-    put-near (bitsOf (a .head)) (leafIn (a .leaf .now)) (a .block) (a .s) (a .key) (a .value) (a .list .now) _ (a .at) (i .if1 .taken)
+    put-near (bitsOf (a .head)) (leafIn (a .leaf .now)) (a .block) (a .s) (a .key) (a .value) (a .list .now) _ (a .at)
+    (i .if1 .taken)
     (x .append-near-put .ensures)
 
 returns-2 : tie.Need-returns-2
@@ -22,7 +23,8 @@ returns-2 c =
     let a = i .before .before .before .args in
     let h = bitsOf (a .head) in
     let L = leafIn (a .leaf .now) in
-    wrote-as (a .list .now) (a .at) (farPut h L (a .block) (a .s) (a .key) (a .value)) (putAt h L (a .block) (a .s) (a .key) (a .value)) _ _
+    wrote-as (a .list .now) (a .at) (farPut h L (a .block) (a .s) (a .key) (a .value))
+    (putAt h L (a .block) (a .s) (a .key) (a .value)) _ _
     (put-far h L (a .block) (a .s) (a .key) (a .value) (i .if1 .left))
     (x .append-far-put .ensures)
 

@@ -14,7 +14,8 @@ returns c =
     let a = one .before .before .before .args in
     let l = a .list .now in
     let x = WriteBack (a .line) in
-    step-more l _ (a .at) (a .at + 1) (x ∷ []) (step-first l _ (a .at) x (one .put-step .ensures)) refl _ Fence (two .put-step2 .ensures)
+    step-more l _ (a .at) (a .at + 1) (x ∷ []) (step-first l _ (a .at) x (one .put-step .ensures)) refl _ Fence
+    (two .put-step2 .ensures)
 
 pub append-settling-spec : {M : Type 1} → statement M
 append-settling-spec =

@@ -59,7 +59,8 @@ returns c =
     let a = l .before .before .args in
     let v = b .loop .inv in
     let e : b .loop .t ≡ lastBeside (a .s) + 1 = omega (arith, v .1, l .last-beside .ensures .0) in
-    filled-end (bitsOf (a .head)) (leafIn (a .leaf .now)) (a .s) (a .key) (b .loop .t) (bitsOf (b .loop .filled)) (b .loop .from) e (v .2)
+    filled-end (bitsOf (a .head)) (leafIn (a .leaf .now)) (a .s) (a .key) (b .loop .t) (bitsOf (b .loop .filled))
+    (b .loop .from) e (v .2)
 
 pub filled-head-spec : {M : Type 1} → statement M
 filled-head-spec =
@@ -67,5 +68,6 @@ filled-head-spec =
     (tie.spec
     Inv-loop μ-loop (λ c κs. search needs) (λ c κs. search needs) (λ c κs. search needs) (λ c. omega arith) loop-holds
     (λ c κs. omega arith)
-    (λ c κs. (omega arith, omega (arith, c .before .before .before .loop .inv .2 .few), omega arith)) (λ c. omega arith) (λ c. omega arith)
+    (λ c κs. (omega arith, omega (arith, c .before .before .before .loop .inv .2 .few), omega arith))
+    (λ c. omega arith) (λ c. omega arith)
     (λ c. omega arith) loop-again returns)

@@ -1,7 +1,7 @@
 use borrow.Author.Needs.{needs}
 use native.Mathlib.Omega.{arith}
-use mathlib.Core.Path.{_≡_, sym, ap, ap₂, _∙_}
-use Prim.Native.Nat.{ℕ, _+_, _*_, _<_}
+use mathlib.Core.Path.{sym, ap, ap₂, _∙_}
+use Prim.Native.Nat.{ℕ, _+_, _*_}
 use Rattle.header.specs.Header.{altIn, bitsOf}
 use Rattle.header.specs.HeaderLaws.{alt-lt}
 use Rattle.steps.specs.Shapes.{oneStore}

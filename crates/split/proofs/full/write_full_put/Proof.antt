@@ -1,7 +1,7 @@
 use borrow.Author.Needs.{needs}
 use native.Mathlib.Omega.{arith}
 use mathlib.Core.List.{List}
-use mathlib.Core.Path.{_≡_, sym, ap, _∙_}
+use mathlib.Core.Path.{sym, ap, _∙_}
 use Prim.Native.Nat.{ℕ}
 use lib.ListN.{length}
 use Rattle.header.specs.Header.{bitsOf}
@@ -16,9 +16,16 @@ write-split-requires c κs =
     let k = c .before .before in
     let f = k .before .before in
     let s = f .before .before .before .before in
-    let n = ap (λ (r : List ℕ). length r) (f .fill-moved .ensures) ∙ s .pre .5 in
-    (omega arith, omega arith, n, omega arith, omega arith, s .pre .4, f .fill-moved .ensures,
-    up-is (leafIn (s .args .leaf .now)) _ (s .args .key) (k .key-at .result) (f .fill-moved .ensures) n (k .key-at .ensures))
+    let n = ap (λ (r : List ℕ). length r) (f .fill-moved .ensures) ∙ s .pre .5 in (
+      omega arith,
+      omega arith,
+      n,
+      omega arith,
+      omega arith,
+      s .pre .4,
+      f .fill-moved .ensures,
+      up-is (leafIn (s .args .leaf .now)) _ (s .args .key) (k .key-at .result) (f .fill-moved .ensures) n (k .key-at .ensures),
+    )
 
 returns : tie.Need-returns
 returns c =
@@ -63,7 +70,8 @@ write-full-put-spec =
     (λ c. search needs)
     write-split-requires (λ c. search needs) returns (λ c. search needs)
     (λ c κs. let f = c .before .before .before .before .before .before .before .before .before .before in
-    let s = f .before .before .before .before in
-    (ap (λ (r : List ℕ). length r) (f .fill-moved .ensures) ∙ s .pre .5,
-    (λ i. rw (f .fill-moved .ensures) (moved-below (s .args .leaf .now) i))))
+    let s = f .before .before .before .before in (
+      ap (λ (r : List ℕ). length r) (f .fill-moved .ensures) ∙ s .pre .5,
+      (λ i. rw (f .fill-moved .ensures) (moved-below (s .args .leaf .now) i)),
+    ))
     (λ c κs. search needs) (λ c. search needs) (λ c. search needs) returns-2)

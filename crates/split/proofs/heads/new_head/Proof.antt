@@ -1,6 +1,6 @@
 use borrow.Author.Needs.{needs}
 use mathlib.Core.Bool.{Bool}
-use mathlib.Core.Path.{_≡_, sym, ap, ap₂, _∙_}
+use mathlib.Core.Path.{sym, ap, ap₂, _∙_}
 use Prim.Native.Nat.{ℕ}
 use Rattle.header.specs.Header.{marked}
 use Rattle.leaf.specs.Leaf.{leafIn}
@@ -21,7 +21,8 @@ returns-2 : tie.Need-returns-2
 returns-2 c =
     let u = c .before in
     let a = u .before .before .before .args in
-    u .upper-head .ensures ∙ ap (λ (t : Bool). newHeader t (leafIn (a .leaf .now)) (a .moved .now) (a .key)) (sym (c .if1 .left))
+    u .upper-head .ensures ∙ ap (λ (t : Bool). newHeader t (leafIn (a .leaf .now)) (a .moved .now) (a .key))
+    (sym (c .if1 .left))
 
 pub new-head-spec : {M : Type 1} → statement M
 new-head-spec =

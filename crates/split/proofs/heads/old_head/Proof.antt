@@ -18,8 +18,11 @@ abbrev μ-loop : tie.MeasureT-loop
 loop-again : tie.Need-loop-again Inv-loop μ-loop
 loop-again c =
     let b = c .before .before .before in
-    let m = b .before .before .args .moved .now in
-    (omega arith, cleared-next m (b .loop .i) (omega arith) (bitsOf (b .loop .rest)) _ _ (c .clear .ensures) (b .loop .inv .1))
+    let m = b .before .before .args .moved .now in (
+      omega arith,
+      cleared-next m (b .loop .i) (omega arith) (bitsOf (b .loop .rest)) _ _ (c .clear .ensures)
+          (b .loop .inv .1),
+    )
 
 returns : tie.Need-returns Inv-loop μ-loop
 returns c =
@@ -33,5 +36,6 @@ old-head-spec =
     tie.close
     (tie.spec
     Inv-loop μ-loop (λ c. (omega arith, refl)) (λ c. omega arith) (λ c. omega arith)
-    (λ c κs. let b = c .before .before in b .before .before .pre .1 (b .loop .i)) (λ c. omega arith) (λ c. omega arith) loop-again
+    (λ c κs. let b = c .before .before in b .before .before .pre .1 (b .loop .i)) (λ c. omega arith)
+    (λ c. omega arith) loop-again
     (λ c κs. search needs) returns)

@@ -11,7 +11,8 @@ use Rattle.split.proofs.heads.upper_head.Statement.{statement}
 use Rattle.split.proofs.heads.upper_head.Tie as tie
 
 abbrev Inv-loop : tie.InvT-loop
-Inv-loop leaf moved head₀ i₀ head i = (i ≤ 7) × (markedFrom (leafIn leaf) (bitsOf head) (7 + i) (drop i moved) ≡ markedFrom (leafIn leaf) 0 7 moved)
+Inv-loop leaf moved head₀ i₀ head i = (i ≤ 7) ×
+    (markedFrom (leafIn leaf) (bitsOf head) (7 + i) (drop i moved) ≡ markedFrom (leafIn leaf) 0 7 moved)
 
 abbrev μ-loop : tie.MeasureT-loop
 μ-loop leaf moved head₀ i₀ head i = 7 - i
@@ -25,7 +26,8 @@ loop-again c =
       omega arith,
       marked-next (a .moved .now) (b .loop .i) (omega arith) (leafIn (a .leaf .now)) (bitsOf (b .loop .head)) _ _
           (c .mark .ensures
-          ∙ ap (λ (g : ℕ). marked (bitsOf (b .loop .head)) (7 + b .loop .i) g) (f .fingerprint-of .ensures ∙ ap fingerprintOf (k .key-at .ensures)))
+          ∙ ap (λ (g : ℕ). marked (bitsOf (b .loop .head)) (7 + b .loop .i) g) (f .fingerprint-of .ensures
+          ∙ ap fingerprintOf (k .key-at .ensures)))
           (b .loop .inv .1),
     )
 
@@ -33,7 +35,8 @@ returns : tie.Need-returns Inv-loop μ-loop
 returns c =
     let b = c .before in
     let a = b .before .before .before .args in
-    sym (ap (markedFrom (leafIn (a .leaf .now)) (bitsOf (b .loop .head)) (7 + b .loop .i)) (drop-end (a .moved .now) (b .loop .i) (omega arith)))
+    sym (ap (markedFrom (leafIn (a .leaf .now)) (bitsOf (b .loop .head)) (7 + b .loop .i))
+    (drop-end (a .moved .now) (b .loop .i) (omega arith)))
     ∙ b .loop .inv .1
 
 pub upper-head-spec : {M : Type 1} → statement M

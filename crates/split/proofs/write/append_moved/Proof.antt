@@ -1,7 +1,6 @@
-use borrow.Author.Needs.{needs}
 use native.Mathlib.Omega.{arith}
-use mathlib.Core.Path.{_≡_, refl, sym, ap, _∙_}
-use Prim.Native.Nat.{ℕ, _+_, _-_, _*_, _≤_}
+use mathlib.Core.Path.{_≡_, refl, ap, _∙_}
+use Prim.Native.Nat.{_+_, _-_, _*_, _≤_}
 use lib.ListN.{length, drop}
 use Rattle.leaf.specs.Leaf.{leafIn}
 use Rattle.steps.specs.CallShapes.{storesFrom}
@@ -29,7 +28,8 @@ loop-again c =
     let a = b .before .before .before .before .args in (
       omega arith,
       ap length (p .append-pair .ensures) ∙ appended-length _ (b .loop .list) (a .at + 2 * b .loop .i) ∙ b .loop .inv .1,
-      entries-next (b .loop .list) _ _ (a .at) (a .place) (b .loop .i) (leafIn (a .leaf .now)) (a .moved .now) _ _ (omega arith) (k .key-at .ensures)
+      entries-next (b .loop .list) _ _ (a .at) (a .place) (b .loop .i) (leafIn (a .leaf .now)) (a .moved .now) _ _
+          (omega arith) (k .key-at .ensures)
           (v .value-at .ensures) (p .append-pair .ensures) (b .loop .inv .2),
     )
 
@@ -42,8 +42,11 @@ append-moved-spec =
     (omega arith, refl, entries-start (a .list .now) (a .at) (a .place) (leafIn (a .leaf .now)) (a .moved .now)))
     (λ c. omega arith) (λ c. omega arith) (λ c. omega arith) (λ c. omega arith) (λ c. omega arith) (λ c. omega arith)
     (λ c κs. let b = c .before .before .before in (omega arith, b .before .before .before .before .pre .4 (b .loop .i)))
-    (λ c κs. let b = c .before .before .before .before in (omega arith, b .before .before .before .before .pre .4 (b .loop .i)))
-    (λ c κs. (omega (arith, c .before .before .before .before .before .loop .inv .1), omega arith)) (λ c. omega arith) (λ c. omega arith)
+    (λ c κs. let b = c .before .before .before .before in
+    (omega arith, b .before .before .before .before .pre .4 (b .loop .i)))
+    (λ c κs. (omega (arith, c .before .before .before .before .before .loop .inv .1), omega arith)) (λ c. omega arith)
+    (λ c. omega arith)
     loop-again (λ c. c .before .loop .inv .1)
     (λ c. let b = c .before in let a = b .before .before .before .before .args in
-    entries-end (b .loop .list) _ (a .at) (a .place) (b .loop .i) (leafIn (a .leaf .now)) (a .moved .now) (omega arith) (b .loop .inv .2)))
+    entries-end (b .loop .list) _ (a .at) (a .place) (b .loop .i) (leafIn (a .leaf .now)) (a .moved .now)
+    (omega arith) (b .loop .inv .2)))

@@ -15,7 +15,8 @@ returns c =
     let a = one .before .before .before .args in
     let l = a .list .now in
     let x = Store (a .place) (a .a) in
-    step-more l _ (a .at) (a .at + 1) (x ∷ []) (step-first l _ (a .at) x (one .put-step .ensures)) refl _ (Store (a .place + 1) (a .b))
+    step-more l _ (a .at) (a .at + 1) (x ∷ []) (step-first l _ (a .at) x (one .put-step .ensures)) refl _
+    (Store (a .place + 1) (a .b))
     (two .put-step2 .ensures)
     ∙ ap (λ (q : ℕ). appended l (a .at) (x ∷ Store q (a .b) ∷ [])) (add-one (a .place))
 

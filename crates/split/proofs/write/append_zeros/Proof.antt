@@ -1,7 +1,6 @@
-use borrow.Author.Needs.{needs}
 use native.Mathlib.Omega.{arith}
-use mathlib.Core.Path.{_≡_, refl, sym, ap, _∙_}
-use Prim.Native.Nat.{ℕ, _+_, _-_, _≤_}
+use mathlib.Core.Path.{_≡_, refl, ap, _∙_}
+use Prim.Native.Nat.{_+_, _-_, _≤_}
 use lib.ListN.{length, length-set, replicate}
 use Rattle.steps.specs.CallShapes.{storesFrom}
 use Rattle.emit.specs.Appended.{appended}
@@ -12,7 +11,8 @@ use Rattle.split.proofs.write.append_zeros.Tie as tie
 abbrev Inv-loop : tie.InvT-loop
 Inv-loop list₀ at place i₀ list i =
     (i ≤ 12) × (length list ≡ length list₀)
-    × (appended list (at + i) (storesFrom (place + i) (replicate (12 - i) 0)) ≡ appended list₀ at (storesFrom place (replicate 12 0)))
+    × (appended list (at + i) (storesFrom (place + i) (replicate (12 - i) 0)) ≡ appended list₀ at
+    (storesFrom place (replicate 12 0)))
 
 abbrev μ-loop : tie.MeasureT-loop
 μ-loop list₀ at place i₀ list i = 12 - i

@@ -1,5 +1,5 @@
 use borrow.Author.Needs.{needs}
-use mathlib.Core.List.{List, [], _∷_, _++_}
+use mathlib.Core.List.{[], _∷_, _++_}
 use mathlib.Core.Path.{refl, ap₂, _∙_}
 use Prim.Native.Nat.{ℕ, _+_}
 use lib.ListN.{replicate}
@@ -22,7 +22,8 @@ returns c =
     stores-more l _ _ 0 14 p (p + 14) (vs ++ replicate 12 0) (a .key ∷ a .value ∷ [])
     (stores-more l _ _ 0 2 p (p + 2) vs (replicate 12 0) (one .append-pair .ensures) refl refl (two .append-zeros .ensures))
     refl refl (three .append-pair2 .ensures)
-    ∙ ap₂ (λ (x y : ℕ). appended l 0 (storesFrom p (x ∷ y ∷ (replicate 12 0 ++ (a .key ∷ a .value ∷ []))))) (h .before .word0 .ensures) (h .word1 .ensures)
+    ∙ ap₂ (λ (x y : ℕ). appended l 0 (storesFrom p (x ∷ y ∷ (replicate 12 0 ++ (a .key ∷ a .value ∷ [])))))
+    (h .before .word0 .ensures) (h .word1 .ensures)
 
 pub write-lower-spec : {M : Type 1} → statement M
 write-lower-spec =

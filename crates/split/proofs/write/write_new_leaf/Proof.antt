@@ -23,10 +23,13 @@ returns c =
     let a = s .args in
     let l = a .list .now in
     let L = leafIn (a .leaf .now) in
-    new-leaf l _ _ _ (32 * a .new) (a .up) L (a .moved .now) (a .key) (a .value) (bitsOf (h .new-head .result)) (k .or-zero .result)
-    (v .or-zero2 .result) (x .next-of .result) (s .pre .2) (one .write-lower .ensures) (two .append-moved .ensures) (three .append-pair .ensures)
+    new-leaf l _ _ _ (32 * a .new) (a .up) L (a .moved .now) (a .key) (a .value) (bitsOf (h .new-head .result))
+    (k .or-zero .result)
+    (v .or-zero2 .result) (x .next-of .result) (s .pre .2) (one .write-lower .ensures) (two .append-moved .ensures)
+    (three .append-pair .ensures)
     (h .new-head .ensures) (k .or-zero .ensures) (v .or-zero2 .ensures) (x .next-of .ensures)
-    ∙ ap (λ (p : ℕ). appended l 0 (storesFrom p (newWords (a .up) L (a .moved .now) (a .key) (a .value)))) (start-place (a .new))
+    ∙ ap (λ (p : ℕ). appended l 0 (storesFrom p (newWords (a .up) L (a .moved .now) (a .key) (a .value))))
+    (start-place (a .new))
 
 pub write-new-leaf-spec : {M : Type 1} → statement M
 write-new-leaf-spec =

@@ -1,7 +1,7 @@
 use borrow.Author.Needs.{needs}
 use native.Mathlib.Omega.{arith}
-use mathlib.Core.Path.{_≡_, sym, ap, _∙_}
-use Prim.Native.Nat.{ℕ, _+_, _-_, _*_}
+use mathlib.Core.Path.{sym, ap, _∙_}
+use Prim.Native.Nat.{ℕ, _-_}
 use lib.ListN.{length}
 use mathlib.Core.List.{List}
 use Rattle.header.specs.Header.{altIn, bitsOf}
@@ -38,7 +38,8 @@ returns c = λ w eh ev.
     let s = one .before .before .before .before .before in
     let a = s .args in
     let L = leafIn (a .leaf .now) in
-    split-whole w (a .block) (a .new) (a .key) (a .value) (a .list .now) _ _ _ _ (newWords (a .up) L (a .moved .now) (a .key) (a .value)) _ _ _
+    split-whole w (a .block) (a .new) (a .key) (a .value) (a .list .now) _ _ _ _
+    (newWords (a .up) L (a .moved .now) (a .key) (a .value)) _ _ _
     (omega arith)
     (ap (λ (M : Leaf). length (movedSlots M)) ev ∙ ap (λ (r : List ℕ). length r) (sym (s .pre .6)) ∙ s .pre .2)
     (one .write-new-leaf .ensures)
