@@ -1,7 +1,7 @@
 -- Steps written into a list from its step i on, and the list that this leaves.
 use Prim.Native.Nat.{ℕ, suc, _+_, _*_, _≤_}
 use native.Mathlib.Omega.{arith}
-use mathlib.Core.List.{List, [], _∷_, _++_, append-assoc}
+use mathlib.Core.List.{List, [], _∷_, _++_, append-assoc, append-nil}
 use mathlib.Core.Path.{_≡_, refl, sym, ap, _∙_}
 use lib.ListN.{length, length-append, length-set}
 use Rattle.steps.specs.declared.Step.{Step}
@@ -49,11 +49,7 @@ module _ (list m : List ℕ) (i j : ℕ) (k : List Step) (so-far : m ≡ appende
 pub appended-written : (l p : List Step) (old : List ℕ) (i : ℕ) → i ≡ length p → 2 * length (p ++ l) ≤ length old
     → appended (written p old) i l ≡ written (p ++ l) old
 unfolding appended
-appended-written [] p old i e h = ap (λ (r : List Step). written r old) (sym (nil p))
-  where
-    nil : (p : List Step) → p ++ [] ≡ p
-    nil [] = refl
-    nil (x ∷ p) = ap (λ (r : List Step). x ∷ r) (nil p)
+appended-written [] p old i e h = ap (λ (r : List Step). written r old) (sym (append-nil p))
 appended-written (x ∷ l) p old i e h =
     let n : length (p ++ (x ∷ l)) ≡ length p + suc (length l) = length-append p (x ∷ l) in
     let m : length (p ++ (x ∷ [])) ≡ length p + 1 = length-append p (x ∷ []) in

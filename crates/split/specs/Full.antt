@@ -2,9 +2,9 @@
 use Prim.Native.Nat.{ℕ, _+_, _≤_}
 use native.Mathlib.Omega.{arith}
 use mathlib.Core.Bool.{Bool, true, false}
-use mathlib.Core.List.{List, [], _∷_, _++_}
+use mathlib.Core.List.{List, [], _∷_, _++_, append-nil}
 use mathlib.Core.Logic.{_≢_}
-use mathlib.Core.Path.{_≡_, refl, sym, ap, ap₂, _∙_}
+use mathlib.Core.Path.{_≡_, sym, ap, ap₂, _∙_}
 use lib.Dec.{ltb}
 use lib.ListN.{length, getD, length-append}
 use Rattle.header.specs.Header.{flipped}
@@ -46,19 +46,15 @@ module _ (h : ℕ) (L : Leaf) (b c k v : ℕ) (before : List ℕ) (room : 112 �
   long : (w : ℕ → ℕ) → view w b ≡ L → length (splitList w b c k v) ≡ 42
   long w e = split-length w b c k v ∙ omega (arith, ap (λ (M : Leaf). length (movedSlots M)) e)
 
-  nil : (l : List Step) → l ≡ l ++ []
-  nil [] = refl
-  nil (x ∷ l) = ap (λ (r : List Step). x ∷ r) (nil l)
-
   pub full-up : (l : List ℕ) → true ≡ goesUp L k → ((w : ℕ → ℕ) → headIn w b ≡ h → view w b ≡ L
       → l ≡ written (splitList w b c k v) before)
       → FullPut h L b c k v before l 42
   unfolding fullPut
   full-up l u f = λ w y.
       let e : splitList w b c k v ≡ fullPut w b c k v =
-      nil (splitList w b c k v)
-      ∙ ap (λ (t : Bool). splitList w b c k v ++ putBelow t w b c k v) (u
-      ∙ ap (λ (M : Leaf). goesUp M k) (sym (y .leaf))) in (
+      sym (append-nil (splitList w b c k v))
+      ∙ ap (λ (t : Bool). splitList w b c k v ++ putBelow t w b c k v)
+      (u ∙ ap (λ (M : Leaf). goesUp M k) (sym (y .leaf))) in (
         f w (y .head) (y .leaf) ∙ ap (λ (r : List Step). written r before) e,
         sym (long w (y .leaf)) ∙ ap (λ (r : List Step). length r) e,
       )
@@ -72,8 +68,9 @@ module _ (h : ℕ) (L : Leaf) (b c k v : ℕ) (before : List ℕ) (room : 112 �
       let S = splitList w b c k v in
       let P = putBelow false w b c k v in
       let p : plainPut g L b k v ≡ P =
-      ap₂ (λ (m : ℕ) (M : Leaf). plainPut m M b k v) (eg
-      ∙ switched-same w b c k v h L ss (y .head) (y .leaf) es) (sym (y .leaf))
+      ap₂ (λ (m : ℕ) (M : Leaf). plainPut m M b k v)
+      (eg ∙ switched-same w b c k v h L ss (y .head) (y .leaf) es)
+      (sym (y .leaf))
       ∙ sym (plain-after w (y .words) b c (y .apart) (y .right) (y .full) k v) in
       let m : n ≡ length P = x .1 ∙ ap (λ (r : List Step). length r) p in
       let d = length-append S P in

@@ -11,7 +11,7 @@ use Rattle.steps.specs.declared.Step.{Step}
 use Rattle.steps.specs.declared.Step.the-variants.{Store as store, Fence as fence}
 use Rattle.steps.specs.Encoding.{written, putStep}
 use Rattle.steps.specs.Shapes.{oneStore}
-use Rattle.steps.specs.CallShapes.{storesFrom}
+use Rattle.steps.specs.CallShapes.{storesFrom, stores-length}
 use Rattle.lists.specs.Lists.{wordPlace, sibPlace, lowWord, highWord, headIn}
 use Rattle.lists.specs.FullLists.{movedSlots, goesUp, newHeader, entryWords, newWords, clearedAll, switchedHead}
 use Rattle.lists.specs.FullLists.{splitStores, splitBacks, splitList}
@@ -25,10 +25,6 @@ stores-append q (v ∷ vs) ws =
     let e : suc q + length vs ≡ q + suc (length vs) = omega arith in
     ap (λ (r : List Step). store q v ∷ r) (stores-append (suc q) vs ws
     ∙ ap (λ (p : ℕ). storesFrom (suc q) vs ++ storesFrom p ws) e)
-
-stores-length : (q : ℕ) (vs : List ℕ) → length (storesFrom q vs) ≡ length vs
-stores-length q [] = refl
-stores-length q (v ∷ vs) = ap suc (stores-length (suc q) vs)
 
 -- more words behind those stored
 pub stores-more : (list m r : List ℕ) (i j p q : ℕ) (vs ws : List ℕ) → m ≡ appended list i (storesFrom p vs)
