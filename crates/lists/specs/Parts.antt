@@ -60,6 +60,16 @@ stores-lines l a = counted-is isLineWrite l ∙ none l a
     none (writeBack k ∷ l) a = absurd (a .0)
     none (fence ∷ l) a = absurd (a .0)
 
+-- .. and nothing but word writes
+pub stores-words : (l : List Step) → Each IsStore l → wordsOf l ≡ length l
+stores-words l a = counted-is isWordWrite l ∙ all l a
+  where
+    all : (l : List Step) → Each IsStore l → counted isWordWrite l ≡ length l
+    all [] a = refl
+    all (store p v ∷ l) a = omega (arith, all l (a .1))
+    all (writeBack k ∷ l) a = absurd (a .0)
+    all (fence ∷ l) a = absurd (a .0)
+
 -- ---- the stores s, their write-backs r, a fence, the stores t, and the switch
 
 module _ (s r t : List Step) (p v : ℕ) where
@@ -80,6 +90,16 @@ module _ (s r t : List Step) (p v : ℕ) where
         lines-append r (fence ∷ (t ++ oneStore p v)),
         lines-append (fence ∷ []) (t ++ oneStore p v),
         lines-append t (oneStore p v),
+      )
+
+  pub parts-words : wordsOf (twoParts s r t p v) ≡ wordsOf s + wordsOf r + wordsOf t + 1
+  parts-words =
+      omega (
+        arith,
+        words-append s (r ++ fence ∷ (t ++ oneStore p v)),
+        words-append r (fence ∷ (t ++ oneStore p v)),
+        words-append (fence ∷ []) (t ++ oneStore p v),
+        words-append t (oneStore p v),
       )
 
   pub parts-each : (P : Step → Type 0) → Each P s → Each P r → P fence → Each P t → P (store p v) → P (writeBack (line p))

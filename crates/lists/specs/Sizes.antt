@@ -28,8 +28,8 @@ use Rattle.lists.specs.FullLists.{splitStores, splitBacks, switchedHead,
 use Rattle.lists.specs.FullLists.{linkStore, splitList, putBelow, fullPut, after, entryWords, putInto}
 use Rattle.lists.specs.FullLists.{putList}
 use Rattle.steps.specs.Shapes.{twoParts}
-use Rattle.lists.specs.Served.{linesOf}
-use Rattle.lists.specs.Parts.{lines-append, IsStore, stores-lines, parts-length, parts-lines}
+use Rattle.lists.specs.Served.{linesOf, wordsOf}
+use Rattle.lists.specs.Parts.{lines-append, IsStore, stores-lines, stores-words, parts-length, parts-lines, parts-words}
 use Rattle.lists.specs.Beside.{beside-few}
 
 -- by the slot that is found
@@ -58,6 +58,10 @@ pub near-size : (h b s k v : ℕ) → (length (nearPut h b s k v) ≡ 5) × (lin
 unfolding nearPut
 near-size h b s k v = (refl, refl)
 
+pub near-words : (h b s k v : ℕ) → wordsOf (nearPut h b s k v) ≡ 3
+unfolding nearPut
+near-words h b s k v = refl
+
 copies-stores : (L : Leaf) (b : ℕ) (cs : List Copy) → Each IsStore (copySteps L b cs)
 copies-stores L b [] = tt
 copies-stores L b (c ∷ cs) = (tt, (tt, copies-stores L b cs))
@@ -72,6 +76,25 @@ module _ (h : ℕ) (L : Leaf) (b s k v : ℕ) where
   lines-any q x p y =
       parts-lines (farStores h L b s k v) (farBacks b s) (store q x ∷ []) p y
       ∙ omega (arith, stores-lines (farStores h L b s k v) (tt, (tt, copies-stores L b (copiesBeside h s))))
+
+  words-any : (q x p y : ℕ)
+      → let l = twoParts (farStores h L b s k v) (farBacks b s) (store q x ∷ []) p y in (wordsOf l + 4 ≡ length l) × (8 ≤ length l)
+  words-any q x p y =
+      let f = farStores h L b s k v in
+      let n = parts-length f (farBacks b s) (store q x ∷ []) p y in (
+        omega (
+          arith,
+          n,
+          parts-words f (farBacks b s) (store q x ∷ []) p y,
+          stores-words f (tt, (tt, copies-stores L b (copiesBeside h s))),
+        ),
+        omega (arith, n),
+      )
+
+  -- two line writes, two fences, and the rest are word writes
+  pub far-words : (wordsOf (farPut h L b s k v) + 4 ≡ length (farPut h L b s k v)) × (8 ≤ length (farPut h L b s k v))
+  unfolding farPut
+  far-words = words-any _ _ _ _
 
   pub far-length : 3 ≤ s → s < 14 → length (farPut h L b s k v) ≤ 14
   unfolding farPut
@@ -143,14 +166,27 @@ module _ (w : ℕ → ℕ) (b c k v : ℕ) where
         new-length (goesUp (view w b) k) (view w b) (movedSlots (view w b)) k v,
       )
 
+  split-stores : Each IsStore (splitStores w b c k v)
+  split-stores = each-append IsStore (storesFrom (wordPlace c 0) words) (linkStore w b c) (row-stores (wordPlace c 0) words) (tt, tt)
+
   pub split-lines : linesOf (splitList w b c k v) ≡ 6
   unfolding splitList
   split-lines =
       parts-lines (splitStores w b c k v) (splitBacks b c) [] (wordPlace b 0) (lowWord (switchedHead w b))
       ∙ omega (
         arith,
-        stores-lines (splitStores w b c k v)
-            (each-append IsStore (storesFrom (wordPlace c 0) words) (linkStore w b c) (row-stores (wordPlace c 0) words) (tt, tt)),
+        stores-lines (splitStores w b c k v) split-stores,
+      )
+
+  -- six line writes, two fences, and the rest are word writes
+  pub split-words : wordsOf (splitList w b c k v) + 8 ≡ length (splitList w b c k v)
+  unfolding splitList
+  split-words =
+      omega (
+        arith,
+        parts-length (splitStores w b c k v) (splitBacks b c) [] (wordPlace b 0) (lowWord (switchedHead w b)),
+        parts-words (splitStores w b c k v) (splitBacks b c) [] (wordPlace b 0) (lowWord (switchedHead w b)),
+        stores-words (splitStores w b c k v) split-stores,
       )
 
   below-size : (t : Bool) → (length (putBelow t w b c k v) ≤ 14) × (linesOf (putBelow t w b c k v) ≤ 2)

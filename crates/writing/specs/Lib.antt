@@ -3,3 +3,4 @@ pub mod Writing
 pub mod BlockLaws
 pub mod ChangeLaws
 pub mod PutLaws
+pub mod PutCounts

@@ -1,6 +1,7 @@
 // The calls that make lists of steps.
 pub mod block;
 pub mod change;
+pub mod put;
 
 use steps::LineWrites;
 use steps::WordWrites;
