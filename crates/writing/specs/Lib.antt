@@ -4,3 +4,4 @@ pub mod BlockLaws
 pub mod ChangeLaws
 pub mod PutLaws
 pub mod PutCounts
+pub mod FullLaws
