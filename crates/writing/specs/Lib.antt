@@ -1,4 +1,4 @@
--- To believe: Writing (what put, set and del answer and make). Proved of it: BlockLaws, ChangeLaws.
+-- To believe: Writing (what put, set and del answer and make). Proved of it: the others.
 pub mod Writing
 pub mod BlockLaws
 pub mod ChangeLaws

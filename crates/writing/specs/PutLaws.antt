@@ -11,7 +11,7 @@ use lib.Dec.{eqb}
 use lib.ListN.{length}
 use Rattle.words.specs.Words.{reads}
 use Rattle.words.specs.Bools.{both, by-test, differ, not-so}
-use Rattle.leaf.specs.Leaf.{occIn, view}
+use Rattle.leaf.specs.Leaf.{Right, occIn, view}
 use Rattle.leaf.specs.Search.{lowest, lowestVacant, count, countTo}
 use Rattle.leaf.specs.SearchLaws.{lowest-same, vacant-at, vacant-none, count-all, count-less}
 use Rattle.leaf.specs.declared.search.Slot.{Slot}
@@ -19,12 +19,15 @@ use Rattle.leaf.specs.declared.search.Slot.the-variants.{At, Missing}
 use Rattle.steps.specs.declared.Step.{Step}
 use Rattle.steps.specs.Refusals.{answer, badImage}
 use Rattle.image.specs.Chain.{All, Starts}
+use Rattle.image.specs.ChainLaws.{Good, all-split, sound-good}
 use Rattle.image.specs.Map.{lookup}
 use Rattle.image.specs.Answers.{valueAt}
 use Rattle.image.specs.Image.{blocks, leaves}
+use Rattle.image.specs.Blocks.{view-size}
+use Rattle.survey.specs.Marks.{isIn}
 use Rattle.survey.specs.Walk.{surveyed}
 use Rattle.index.specs.Reading.{entriesIn, isNone}
-use Rattle.index.specs.SoundTest.{Surveyed, survey-sound, sound-chain}
+use Rattle.index.specs.SoundTest.{Surveyed, survey-sound, sound-chain, noted-target as around}
 use Rattle.lists.specs.Lists.{headIn, putAt}
 use Rattle.lists.specs.FullLists.{fullPut, putInto, putList}
 use Rattle.writing.specs.Writing.{targetOf, placeOf, isAmong, freeOf, Outcome, outcome, madeAs, isMissing, isFull, blockOr0, putTable, putOf}
@@ -75,6 +78,22 @@ module _ (l : List ℕ) (k : ℕ) (fine : badImage (length l) ≡ false) (e : su
       lowest-same (λ b. not (surveyed (leaves l) (blocks l) k .met b)) (λ b. not (isAmong b (s .chain))) (blocks l) 0 (λ b x y. ap not (met-among b))
       ∙ ap (λ (bs : List ℕ). lowest (λ b. not (isAmong b bs)) (blocks l) 0) (sym (sound-chain l (s .chain) fine (s .sound)))
 
+  -- the target leaf is right, and was met
+  pub target-right : Right (leaves l (surveyed (leaves l) (blocks l) k .target))
+  target-right =
+      let a = around l k fine e in
+      let b = surveyed (leaves l) (blocks l) k .target in
+      all-split (Good (leaves l) (blocks l)) (a .front) (b ∷ a .behind) (sound-good (leaves l) (blocks l) (a .sound)) .1 .0 .right
+
+  pub target-met : surveyed (leaves l) (blocks l) k .met (surveyed (leaves l) (blocks l) k .target) ≡ true
+  target-met =
+      let a = around l k fine e in
+      let s = survey-sound l k fine e in
+      let st = surveyed (leaves l) (blocks l) k in
+      all-split (λ x. st .met x ≡ true) (a .front) (st .target ∷ a .behind)
+      (subst (All (λ x. st .met x ≡ true)) (sym (sound-chain l (s .chain) fine (s .sound)) ∙ a .whole) (s .notes .met-all))
+      .1 .0
+
 -- ---- a full leaf is one without a vacant slot
 
 pub full-vacant : (w : ℕ → ℕ) (b : ℕ) → isFull (view w b) ≡ isMissing (lowestVacant (occIn (headIn w b)) 14)
@@ -86,6 +105,13 @@ full-vacant w b = by (lowestVacant (occIn (headIn w b)) 14) refl
         let r = vacant-at (occIn (headIn w b)) 14 s e in
         ne-eqb (countTo (occIn (headIn w b)) 14) 14 (λ q. omega (arith, count-less (occIn (headIn w b)) 14 s (r .0) (r .1)))
     by Missing e = eq-eqb (countTo (occIn (headIn w b)) 14) 14 (count-all (occIn (headIn w b)) 14 (vacant-none (occIn (headIn w b)) 14 e))
+
+pub vacant-full : (w : ℕ → ℕ) (b : ℕ) → lowestVacant (occIn (headIn w b)) 14 ≡ Missing → count (view w b) ≡ 14
+vacant-full w b e = eqb-true (count (view w b)) (view w b .size) (full-vacant w b ∙ ap isMissing e) ∙ view-size w b
+
+-- a block that is out of the set is none that is in it
+pub out-apart : (n b c : ℕ) → isIn n b ≡ true → not (isIn n c) ≡ true → b ≢ c
+out-apart n b c has lacks = λ q. differ (sym lacks ∙ ap not (ap (isIn n) (sym q) ∙ has))
 
 -- ---- put, by the slot of the key, the lowest vacant slot and the lowest free block
 
