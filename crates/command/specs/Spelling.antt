@@ -80,6 +80,11 @@ InRange Malformed = Unit
 abbrev pub lineOf : List ℕ → List ℕ
 lineOf ns = parted (map decimal ns) ++ 10 ∷ []
 
+-- some lines, one behind the other
+unfoldable pub textOf : List (List ℕ) → List ℕ
+textOf [] = []
+textOf (ns ∷ lines) = lineOf ns ++ textOf lines
+
 -- a line written at the start of a buffer: n is its length, and what stands behind it is as it was
 abbrev pub Written : List ℕ → List ℕ → List ℕ → ℕ → Type 0
 Written old line new n = (n ≡ length line) × (new ≡ line ++ drop n old)

@@ -1,13 +1,13 @@
 -- What each function that writes leaves and tells, and the room that it needs: bytes stored one behind the other.
-use mathlib.Core.Path.{_≡_, ap, ap₂, sym, _∙_}
-use mathlib.Core.List.{List, [], _∷_, _++_, append-assoc}
+use mathlib.Core.Path.{_≡_, ap, ap₂, sym, _∙_, subst}
+use mathlib.Core.List.{List, [], _∷_, _++_, append-assoc, append-nil}
 use Prim.Native.Nat.{ℕ, zero, suc, _+_, _/_, _%_, _^_, _≤_, _<_}
 use native.Mathlib.Nat.{add-zero, add-suc, suc-add, pow-suc, div-lt-iff-lt-mul}
 use native.Mathlib.Decide.{decLt}
 use native.Mathlib.Omega.{arith}
-use lib.ListN.{length, take, drop, set, length-append}
+use lib.ListN.{length, take, drop, set, getD, length-append}
 use lib.Seq.{sets, sets-eq, length-sets, length-take-le}
-use Rattle.command.specs.Spelling.{decimal, lineOf, Written}
+use Rattle.command.specs.Spelling.{decimal, lineOf, textOf, Written}
 use Rattle.command.specs.Decimal.{decimal-small, decimal-more}
 
 -- new is old with bytes stored from a place on, and next the place behind them
@@ -17,6 +17,11 @@ Stored old at bytes new next = (next ≡ at + length bytes) × (new ≡ sets old
 -- a number and the byte behind it
 abbrev pub marked : ℕ → ℕ → List ℕ
 marked n mark = decimal n ++ mark ∷ []
+
+-- the first n numbers of two lists, side by side
+unfoldable pub rowsTo : ℕ → List ℕ → List ℕ → List (List ℕ)
+rowsTo zero keys values = []
+rowsTo (suc n) keys values = rowsTo n keys values ++ (getD keys n 0 ∷ getD values n 0 ∷ []) ∷ []
 
 -- n counts bytes at the start of a buffer; said in two ways, so that the check finds by itself that `&buf[..n]` is in order
 abbrev pub Counts : ℕ → List ℕ → Type 0
@@ -87,3 +92,22 @@ pair-is-line a b = simp append-assoc
 pub pairs-are-line : (a b c d : ℕ)
     → (marked a 9 ++ marked b 9) ++ (marked c 9 ++ marked d 10) ≡ lineOf (a ∷ b ∷ c ∷ d ∷ [])
 pairs-are-line a b c d = simp append-assoc
+
+-- the lines behind one more pair
+text-behind : (lines : List (List ℕ)) (ns : List ℕ) → textOf lines ++ lineOf ns ≡ textOf (lines ++ ns ∷ [])
+unfolding textOf
+text-behind [] ns = sym (append-nil (lineOf ns))
+text-behind (l ∷ lines) ns = append-assoc (lineOf l) (textOf lines) (lineOf ns) ∙ ap (λ (t : List ℕ). lineOf l ++ t) (text-behind lines ns)
+
+-- the pair n stored behind the lines of the first n
+pub row-stored : (l keys values : List ℕ) (n : ℕ) (m : List ℕ) (p : ℕ) (m′ : List ℕ) (p′ : ℕ)
+    → Stored l 0 (textOf (rowsTo n keys values)) m p → Stored m p (marked (getD keys n 0) 9 ++ marked (getD values n 0) 10) m′ p′
+    → Stored l 0 (textOf (rowsTo (n + 1) keys values)) m′ p′
+unfolding rowsTo
+row-stored l keys values n m p m′ p′ s t =
+    let more : suc n ≡ n + 1 = omega arith in
+    let lines = rowsTo n keys values in
+    let row = getD keys n 0 ∷ getD values n 0 ∷ [] in
+    let e = ap (λ (x : List ℕ). textOf lines ++ x) (pair-is-line (getD keys n 0) (getD values n 0)) ∙ text-behind lines row in
+    subst (λ (x : List ℕ). Stored l 0 x m′ p′) (e ∙ ap (λ (i : ℕ). textOf (rowsTo i keys values)) more)
+    (stored-behind l 0 (textOf lines) m p _ m′ p′ s t)

@@ -1,10 +1,9 @@
 // The lines that the bench program answers with, written into a lent buffer.
-ghost use mathlib.Core.Path.{_≡_};
-ghost use Prim.Native.Nat.{_+_, _≤_};
+ghost use Prim.Native.Nat.{_+_, _*_, _≤_};
 ghost use mathlib.Core.List.{[], _∷_, _++_};
 ghost use lib.ListN.{length};
-ghost use Rattle.command.specs.Spelling.{decimal, lineOf, Written};
-ghost use Rattle.command.specs.Stores.{Stored, marked, Counts};
+ghost use Rattle.command.specs.Spelling.{decimal, lineOf, textOf, Written};
+ghost use Rattle.command.specs.Stores.{Stored, marked, rowsTo, Counts};
 
 // Writes a number from a place on, and tells the place behind it: the digits of n / 10 first, then the last one.
 fn write_number(buf: &mut [u8], at: usize, n: u64) -> usize
@@ -56,4 +55,19 @@ pub fn answer_line(buf: &mut [u8], a: u64, b: u64, c: u64, d: u64) -> usize
 {
     let third = write_pair(buf, 0, a, b, b'\t');
     write_pair(buf, third, c, d, b'\n')
+}
+
+// Writes the lines of the first n keys and values at the start of the buffer, and tells their length.
+pub fn pair_lines(buf: &mut [u8], keys: &[u64], values: &[u64], n: usize) -> usize
+    requires { ⌜ (n ≤ length (now keys)) × (n ≤ length (now values)) × (42 * n ≤ length (now buf)) ⌝ }
+    ensures { λ r. ⌜ Written (now (buf .entry)) (textOf (rowsTo n (now (keys .entry)) (now (values .entry)))) (now (buf .exit)) r ⌝ }
+    ensures { λ r. ⌜ Counts r (now (buf .exit)) ⌝ }
+{
+    let mut end = 0;
+    let mut i = 0;
+    while i < n {
+        end = write_pair(buf, end, keys[i], values[i], b'\n');
+        i += 1;
+    }
+    end
 }

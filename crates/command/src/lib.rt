@@ -5,6 +5,7 @@ mod reader;
 
 pub use answer::answer_line;
 pub use answer::pair_line;
+pub use answer::pair_lines;
 use number::Number;
 use number::number_of;
 pub use reader::Reader;
