@@ -93,10 +93,15 @@ pub pairs-are-line : (a b c d : ℕ)
     → (marked a 9 ++ marked b 9) ++ (marked c 9 ++ marked d 10) ≡ lineOf (a ∷ b ∷ c ∷ d ∷ [])
 pairs-are-line a b c d = simp append-assoc
 
--- the lines behind one more pair
+-- a text of one line
+pub text-one : (ns : List ℕ) → lineOf ns ≡ textOf (ns ∷ [])
+unfolding textOf
+text-one ns = sym (append-nil (lineOf ns))
+
+-- one more line behind a text
 text-behind : (lines : List (List ℕ)) (ns : List ℕ) → textOf lines ++ lineOf ns ≡ textOf (lines ++ ns ∷ [])
 unfolding textOf
-text-behind [] ns = sym (append-nil (lineOf ns))
+text-behind [] ns = text-one ns
 text-behind (l ∷ lines) ns = append-assoc (lineOf l) (textOf lines) (lineOf ns) ∙ ap (λ (t : List ℕ). lineOf l ++ t) (text-behind lines ns)
 
 -- the pair n stored behind the lines of the first n

@@ -76,7 +76,7 @@ module _ (L : Leaf) where
         in-entries ss k v i (u .all (i .at) (i .taken) (omega (arith, h .1, i .key-is)));
   }
 
-  entries-length : (ss : List ℕ) → length (entriesIn L ss) ≡ length ss
+  pub entries-length : (ss : List ℕ) → length (entriesIn L ss) ≡ length ss
   unfolding entriesIn
   entries-length [] = refl
   entries-length (s ∷ ss) = ap suc (entries-length ss)

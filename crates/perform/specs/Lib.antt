@@ -1,0 +1,4 @@
+-- To believe: Perform.
+pub mod Perform
+pub mod PerformLaws
+pub mod ListLaws

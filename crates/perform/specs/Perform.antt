@@ -1,0 +1,65 @@
+-- Document 01, "The bench program": what each command does to the image, and the lines that it prints. To be believed.
+use mathlib.Core.Path.{_≡_}
+use mathlib.Core.Bool.{Bool, cond}
+use mathlib.Core.List.{List, [], _∷_, map}
+use Prim.Native.Nat.{ℕ}
+use lib.Dec.{eqb, ltb}
+use lib.ListN.{length, replicate}
+use Rattle.command.specs.Spelling.{textOf, Written}
+use Rattle.command.specs.declared.Command.{Command}
+use Rattle.command.specs.declared.Command.the-variants.{Put, Set, Del, Get, List as Listing, Malformed}
+use Rattle.steps.specs.Refusals.{answer}
+use Rattle.machine.specs.Calls.{runOf}
+use Rattle.image.specs.Map.{Entry}
+use Rattle.index.specs.Reading.{Told, findOf, listingTable, entriesIn}
+use Rattle.writing.specs.Writing.{Outcome, putOf, setOf, delOf}
+
+-- "at most 65,536 bytes (more prints the one line `9 0 0 0`, with tabs, and does nothing else)"
+abbrev pub tooLong : List ℕ → Bool
+tooLong input = ltb 65536 (length input)
+
+-- the image after a command, and the numbers of each line that it prints
+pub record Performed : Type 0 where
+  pub image : List ℕ
+  pub printed : List (List ℕ)
+
+abbrev pub performing : List ℕ → List (List ℕ) → Performed
+performing image printed = record { image = image; printed = printed }
+
+-- a command done: the image after it, and its lines at the start of a buffer, n bytes; what stands behind them is as it was
+abbrev pub Done : Performed → List ℕ → List ℕ → List ℕ → ℕ → Type 0
+Done p image old new n = (image ≡ p .image) × Written old (textOf (p .printed)) new n
+
+-- the list that each call is lent
+abbrev pub room : List ℕ
+room = replicate 112 0
+
+-- "Accepted lists are run whole." "put, set, del (..) print answer, steps, line writes, word writes"
+abbrev pub taken : List ℕ → Outcome → Performed
+taken image made =
+    performing (cond (eqb (made .answer) 0) (runOf image (made .list) (made .steps) .image) image)
+    ((made .answer ∷ made .steps ∷ made .lines ∷ made .words ∷ []) ∷ [])
+
+-- "get prints answer and value"
+abbrev pub told : Told → List (List ℕ)
+told found = (found .answer ∷ found .value ∷ []) ∷ []
+
+-- "list prints key and value of each entry"
+abbrev pub row : Entry → List ℕ
+row e = e .key ∷ e .val ∷ []
+
+abbrev pub rows : List ℕ → List (List ℕ)
+rows image = cond (eqb (answer (listingTable image)) 0) (map row (entriesIn image)) []
+
+-- "A refusal tells 0 for every count"
+abbrev pub refused : ℕ → List (List ℕ)
+refused n = (n ∷ 0 ∷ 0 ∷ 0 ∷ []) ∷ []
+
+-- 9: "bench program: line malformed"
+unfoldable pub performed : Command → List ℕ → Performed
+performed (Put k v) image = taken image (putOf image room k v)
+performed (Set k v) image = taken image (setOf image room k v)
+performed (Del k) image = taken image (delOf image room k)
+performed (Get k) image = performing image (told (findOf image k))
+performed Listing image = performing image (rows image)
+performed Malformed image = performing image (refused 9)
