@@ -1,9 +1,24 @@
-.PHONY: test demo
+.PHONY: test demo library bench wear
 
-# The gate: the layout, all proofs, all must-fail edits, all programs.
+# The gate: the layout, all proofs, all must-fail edits, all programs, the library and the host's tests of it.
 test:
 	@bash .ci/run
 
 # A proved program over the crates there are: what it prints beside what each line means.
 demo:
 	@rt check leaf_cases >/dev/null && paste -d'|' target/log/leaf_cases.stdout crates/leaf_cases/meaning | column -t -s'|'
+
+# The library for the board: proved, then compiled. Archive and header stand side by side.
+library:
+	@rt staticlib board
+	@cp include/stringhut.h target/staticlib/
+	@ls target/staticlib/libboard.a target/staticlib/stringhut.h
+
+# Each call beside the best plain Rust we know for the same job: times, then instructions and code size.
+bench: library
+	@cd host && cargo run -q --release --offline --features library --bin bench
+	@host/count-instructions 4 64 256
+
+# Line writes per put beside a leaf without moving and source 001's. Draws docs/wear.svg again.
+wear:
+	@cd host && cargo run -q --release --offline --bin wear -- ../docs/wear.svg

@@ -6,7 +6,9 @@ use index::listing::listing;
 use index::recovery::Recovered;
 use index::recovery::recovery;
 ghost use mathlib.Core.Path.{_≡_};
-ghost use Rattle.index.specs.Reading.{told, foundAs, findOf, counted, listedAs, listingIs, listingOf, sizes, recoveredAs, recoveryIs, recoveryOf};
+ghost use Rattle.index.specs.Reading.{told, foundAs, findOf};
+ghost use Rattle.index.specs.Reading.{counted, listedAs, listingIs, listingOf};
+ghost use Rattle.index.specs.Reading.{sizes, recoveredAs, recoveryIs, recoveryOf};
 
 #[repr(C)]
 pub struct HutFound {
