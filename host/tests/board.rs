@@ -57,3 +57,10 @@ fn c_edges() {
     let output = compile_and_run("tests/c/edges.c", "edges");
     assert!(output.status.success(), "line {:?} of edges.c", output.status.code());
 }
+
+/// The header's HUT_STACK_BYTES holds: each call on a painted stack, over images filled, split, thinned out and damaged.
+#[test]
+fn c_stack() {
+    let output = compile_and_run("tests/c/stack.c", "stack");
+    assert!(output.status.success(), "{}", String::from_utf8_lossy(&output.stdout));
+}

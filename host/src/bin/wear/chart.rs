@@ -76,7 +76,7 @@ pub fn picture(table: &[[Wear; 3]; 4]) -> String {
         svg += &group(at, keys.name(), row);
     }
     svg += &rule(height_of(BOUND), "bound");
-    svg += &text(WIDTH - 20.0, height_of(BOUND) - 6.0, "end", "note", "proved bound for ours: 20/7");
+    svg += &text(WIDTH - 20.0, height_of(BOUND) + 16.0, "end", "note", "proved bound for ours: 20/7");
     svg += &text(LEFT, HEIGHT - 14.0, "start", "note", "256 blocks; fewer is better; made by make wear");
     svg + "</svg>\n"
 }
