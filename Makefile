@@ -4,9 +4,9 @@
 test:
 	@bash .ci/run
 
-# A proved program over the crates there are: what it prints beside what each line means.
+# The proved bench program on a day at the courthouse: each line, what it prints and what that means.
 demo:
-	@rt check leaf_cases >/dev/null && paste -d'|' target/log/leaf_cases.stdout crates/leaf_cases/meaning | column -t -s'|'
+	@rt check bench >/dev/null && examples/courthouse/show
 
 # The library for the board: proved, then compiled. Archive and header stand side by side.
 library:

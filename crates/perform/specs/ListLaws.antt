@@ -1,5 +1,5 @@
 -- A list prints every entry: 4 blocks hold at most 56, which is the room that listing is lent.
-use mathlib.Core.Path.{_≡_, refl, sym, ap, _∙_}
+use mathlib.Core.Path.{_≡_, refl, ap, _∙_}
 use mathlib.Core.Bool.{Bool, true, false, cond}
 use mathlib.Core.List.{List, [], _∷_, _++_, map}
 use Prim.Native.Nat.{ℕ, zero, suc, _+_, _*_, _≤_}
@@ -19,9 +19,7 @@ use Rattle.image.specs.Entries.{entriesOf, entries-length, listOf}
 use Rattle.image.specs.Image.{blocks, leaves}
 use Rattle.image.specs.Blocks.{view-size}
 use Rattle.words.specs.Words.{reads}
-use Rattle.index.specs.Reading.{chainFrom, chainOf, entriesIn, listingTable, Listing, Counted, counted, listedAs, listingIs, over, listed, listingOf}
-use Rattle.index.specs.declared.listing.Listed.{Listed}
-use Rattle.command.specs.Spelling.{textOf, Written}
+use Rattle.index.specs.Reading.{chainFrom, chainOf, entriesIn, listingTable, Listing, Counted, counted, listingIs, over, listed, listingOf}
 use Rattle.command.specs.Stores.{rowsTo}
 use Rattle.perform.specs.Perform.{row, rows}
 
@@ -100,33 +98,19 @@ module _ (l : List ℕ) (t : Counted) (keys values : List ℕ) (told : listingIs
       cond fine (listingIs (counted n (length es)) (over (map (λ e. e .key) es) lent) (over (map (λ e. e .val) es) lent))
       (listingIs (counted n 0) lent lent)
 
-  told-rows : length l ≡ 1024 → rowsTo (t .count) keys values ≡ rows l
+  pub list-rows : length l ≡ 1024 → rowsTo (t .count) keys values ≡ rows l
   unfolding listingOf rowsTo es
-  told-rows long = go (eqb (answer (listingTable l)) 0) told
+  list-rows long = go (eqb (answer (listingTable l)) 0) told
     where
       go : (fine : Bool) → listingIs t keys values ≡ made fine → rowsTo (t .count) keys values ≡ cond fine (map row (entriesIn l)) []
       go true e = (λ i. rowsTo (e i .told .count) (e i .keys) (e i .values)) ∙ rows-of es _ _ ∙ ap (map row) (all-listed l long)
       go false e = λ i. rowsTo (e i .told .count) (e i .keys) (e i .values)
 
   -- no listing tells more than the buffers hold
-  told-few : t .count ≤ 56
+  pub list-few : t .count ≤ 56
   unfolding listingOf es
-  told-few = go (eqb (answer (listingTable l)) 0) told
+  list-few = go (eqb (answer (listingTable l)) 0) told
     where
       go : (fine : Bool) → listingIs t keys values ≡ made fine → t .count ≤ 56
       go true e = omega (arith, ap (λ (x : Listing). x .told .count) e, length-take 56 (startingAt 0 (entriesIn l)))
       go false e = omega (arith, ap (λ (x : Listing). x .told .count) e)
-
-module _ (l : List ℕ) (r x : Listed) (keys values : List ℕ) (is : r ≡ x)
-    (told : listingIs (listedAs r) keys values ≡ listingOf l 0 lent lent) where
-  pub list-rows : length l ≡ 1024 → rowsTo (listedAs x .count) keys values ≡ rows l
-  list-rows long =
-      ap (λ (y : Listed). rowsTo (listedAs y .count) keys values) (sym is) ∙ told-rows l (listedAs r) keys values told long
-
-  pub list-few : listedAs x .count ≤ 56
-  list-few = omega (arith, ap (λ (y : Listed). listedAs y .count) is, told-few l (listedAs r) keys values told)
-
--- nothing written
-pub no-rows : (old ks vs : List ℕ) → Written old (textOf (rowsTo 0 ks vs)) old 0
-unfolding textOf rowsTo
-no-rows old ks vs = (refl, refl)

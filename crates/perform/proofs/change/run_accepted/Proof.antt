@@ -5,7 +5,7 @@ use Rattle.perform.proofs.change.run_accepted.Statement.{statement}
 use Rattle.perform.proofs.change.run_accepted.Tie as tie
 
 returns : tie.Need-returns
-returns c = let a = c .before .before .before .before .before .before .before .args in rw (eq-eqb (a .answer) 0 (omega arith)) (c .before .before .run .ensures .1)
+returns c = let a = c .before .before .before .before .before .before .before .args in rw (eq-eqb (a .answer) 0 (omega arith)) (c .before .before .hut-run .ensures .1)
 
 returns-2 : tie.Need-returns-2
 returns-2 c = let a = c .before .before .before .args in rw (ne-eqb (a .answer) 0 (c .if1 .left))

@@ -4,11 +4,10 @@ use Rattle.perform.proofs.reading.do_get.Statement.{statement}
 use Rattle.perform.proofs.reading.do_get.Tie as tie
 
 returns : tie.Need-returns
-returns c =
-    let t = c .before .before in (
-      told-line _ _ _ _ _ _ _ (t .numbers-of .ensures) (t .before .find .ensures) (c .pair-line .ensures .0),
-      c .pair-line .ensures .1,
-    )
+returns c = (
+  told-line _ _ _ _ _ (c .before .before .hut-find .ensures) (c .pair-line .ensures .0),
+  c .pair-line .ensures .1,
+)
 
 pub do-get-spec : {M : Type 1} → statement M
-do-get-spec = tie.close (tie.spec (λ c κs. search needs) (λ c κs. search needs) (λ c κs. search needs) returns)
+do-get-spec = tie.close (tie.spec (λ c κs. search needs) (λ c κs. search needs) returns)
