@@ -1,5 +1,4 @@
 // The calls that read an image.
-pub mod along;
 pub mod find;
 pub mod listing;
 pub mod recovery;

@@ -1,11 +1,11 @@
 // Listing: the entries from a key on, rising, into two lent buffers.
-use crate::along::next_block;
 use leaf::place::Leaf;
 use leaf::search::Slot;
 use leaf::search::key_at;
 use leaf::search::least_from;
 use leaf::search::value_at;
 use machine::bad_image;
+use survey::along::next_block;
 use survey::walk::survey;
 ghost use mathlib.Core.Path.{_≡_};
 ghost use Prim.Native.Nat.{_+_, _*_, _/_, _≤_, _<_, min};

@@ -1,8 +1,8 @@
 // Recovery: the smallest key and the number of each leaf, in chain order, into two lent buffers.
-use crate::along::next_block;
 use leaf::place::Leaf;
 use leaf::search::smallest_key;
 use machine::bad_image;
+use survey::along::next_block;
 use survey::walk::survey;
 ghost use mathlib.Core.Path.{_≡_};
 ghost use Prim.Native.Nat.{_+_, _*_, _≤_, _<_};

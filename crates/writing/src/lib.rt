@@ -1,5 +1,5 @@
 // The calls that make lists of steps.
-pub mod block;
+mod block;
 pub mod change;
 pub mod put;
 

@@ -4,8 +4,8 @@ use denote.Ref.{now}
 use Prim.Native.Nat.{_+_, _*_}
 use Rattle.leaf.specs.Leaf.{Leaf}
 use Rattle.leaf.specs.LeafLaws.{part-leaf}
-use Rattle.index.proofs.along.next_block.Statement.{statement}
-use Rattle.index.proofs.along.next_block.Tie as tie
+use Rattle.survey.proofs.along.next_block.Statement.{statement}
+use Rattle.survey.proofs.along.next_block.Tie as tie
 
 pub next-block-spec : {M : Type 1} → statement M
 next-block-spec =

@@ -1,12 +1,12 @@
-// The way along the chain of a sound image.
+// The way along the chain of an image that the walk found sound.
 use header::Header;
 use leaf::place::Leaf;
 use leaf::search::next_of;
 ghost use mathlib.Core.Path.{_≡_};
 ghost use Prim.Native.Nat.{_+_, _*_, _≤_};
 ghost use lib.ListN.{length};
-ghost use Rattle.leaf.specs.Leaf.{leafIn};
-ghost use Rattle.image.specs.Image.{leaves};
+ghost use Rattle.words.specs.Words.{reads};
+ghost use Rattle.leaf.specs.Leaf.{leafIn, view};
 
 fn next_in(leaf: &[u8]) -> u64
     requires { ⌜ 256 ≤ length (now leaf) ⌝ }
@@ -18,7 +18,7 @@ fn next_in(leaf: &[u8]) -> u64
 // The block that the active sibling of a block names.
 pub fn next_block(image: &[u8], block: u64) -> u64
     requires { ⌜ 256 * block + 256 ≤ length (now image) ⌝ }
-    ensures { λ r. ⌜ r ≡ leaves (now (image .entry)) block .next ⌝ }
+    ensures { λ r. ⌜ r ≡ view (reads (now (image .entry))) block .next ⌝ }
 {
     let a = Leaf::BYTES * (block as usize);
     let e = a + Leaf::BYTES;
