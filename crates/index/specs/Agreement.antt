@@ -14,7 +14,7 @@ use Rattle.image.specs.Entries.{listOf, chain-lists}
 use Rattle.image.specs.Image.{blocks, leaves, SoundImage, mapOf}
 use Rattle.index.specs.Reading.{chainOf, entriesIn, Told, told, findOf, over, counted, listingIs, listed, listingOf}
 use Rattle.index.specs.Reading.{sizes, recoveryIs, isShort, recoveryOf}
-use Rattle.index.specs.Rows.{row-passed}
+use Rattle.steps.specs.Refusals.{row-left}
 use Rattle.index.specs.SoundTest.{sound-test, sound-chain}
 use Rattle.index.specs.FindLaws.{findBy}
 use Rattle.index.specs.ListingLaws.{listingOn}
@@ -46,7 +46,7 @@ module _ (l : List ℕ) (fine : badImage (length l) ≡ false) (S : SoundImage l
       (over (map (λ e. e .val) (listed l from ks vs)) vs)
   unfolding listingOf
   listing-accepted from ks vs =
-      ap (listingOn (listed l from ks vs) ks vs) (row-passed 1 _ fine ∙ row-passed 3 0 (ap not (sound-test l fine S)))
+      ap (listingOn (listed l from ks vs) ks vs) (row-left 1 _ fine ∙ row-left 3 0 (ap not (sound-test l fine S)))
 
   pub recovery-accepted : (ks vs : List ℕ) → isShort (blocks l) (length ks) (length vs) ≡ false → recoveryOf l ks vs
       ≡ recoveryIs (sizes 0 (length (chainOf l)) (length (entriesIn l)))
@@ -54,7 +54,7 @@ module _ (l : List ℕ) (fine : badImage (length l) ≡ false) (S : SoundImage l
   unfolding recoveryOf
   recovery-accepted ks vs wide =
       ap (recoveryOn l ks vs (length (entriesIn l)))
-      (row-passed 1 _ fine ∙ row-passed 8 _ wide ∙ row-passed 3 0 (ap not (sound-test l fine S)))
+      (row-left 1 _ fine ∙ row-left 8 _ wide ∙ row-left 3 0 (ap not (sound-test l fine S)))
 
   -- ---- the map
 

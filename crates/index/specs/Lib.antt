@@ -1,7 +1,6 @@
 -- To believe: Reading (what find, listing and recovery answer). Proved of it: SoundTest (refusal 3 is image's `SoundImage`),
 -- Agreement (with the map), AlikeReading and BlankReading. The others serve the proofs of the calls.
 pub mod Reading
-pub mod Rows
 pub mod SoundTest
 pub mod FindLaws
 pub mod Filling

@@ -25,7 +25,7 @@ use Rattle.image.specs.Entries.{entryIn, entriesIn, entriesOf, listOf, list-fro
 use Rattle.survey.specs.Walk.{surveyed}
 use Rattle.index.specs.Reading.{chainFrom, entriesIn as inMap, over}
 use Rattle.index.specs.Reading.{counted, listedAs, Listing, listingIs, listed, listingOf}
-use Rattle.index.specs.Rows.{row-given, row-passed}
+use Rattle.steps.specs.Refusals.{row-given, row-left}
 use Rattle.index.specs.SoundTest.{says-yes, says-no, noted-target}
 use Rattle.index.specs.Filling.{Buffers, buffers, fill, fill-full, fill-one, fill-append, fill-whole}
 use Rattle.index.specs.Along.{chain-on, chain-last, chain-over}
@@ -166,7 +166,7 @@ module _ (l : List ℕ) (from : ℕ) (ks vs : List ℕ) where
       → listingIs (listedAs Unsound) ks vs ≡ listingOf l from ks vs
   unfolding listingOf
   listing-unsound fine ne =
-      sym (ap (listingOn (listed l from ks vs) ks vs) (row-passed 1 _ fine ∙ row-given 3 0 (ap not (says-no l from fine ne))))
+      sym (ap (listingOn (listed l from ks vs) ks vs) (row-left 1 _ fine ∙ row-given 3 0 (ap not (says-no l from fine ne))))
 
   pub listing-done : badImage (length l) ≡ false → surveyed (leaves l) (blocks l) from .stage ≡ 1
       → (room b n : ℕ) (ks' vs' : List ℕ) → room ≡ min (length ks) (length vs) → b ≡ surveyed (leaves l) (blocks l) from .target
@@ -180,7 +180,7 @@ module _ (l : List ℕ) (from : ℕ) (ks vs : List ℕ) where
       ∙ fill-whole room (startingAt from (inMap l)) ks vs (omega arith) (omega arith)
       ∙ ap (λ (m : ℕ). filled (take m (startingAt from (inMap l)))) r in
       ap (λ (x : Buffers). listingIs (counted 0 (x .used)) (x .keys) (x .values)) whole
-      ∙ sym (ap (listingOn (listed l from ks vs) ks vs) (row-passed 1 _ fine ∙ row-passed 3 0 (ap not (says-yes l from fine e))))
+      ∙ sym (ap (listingOn (listed l from ks vs) ks vs) (row-left 1 _ fine ∙ row-left 3 0 (ap not (says-yes l from fine e))))
     where
       filled : List Entry → Buffers
       filled es = buffers (length es) (over (map (λ e. e .key) es) ks) (over (map (λ e. e .val) es) vs)

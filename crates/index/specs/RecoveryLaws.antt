@@ -22,7 +22,7 @@ use Rattle.image.specs.ImageLaws.{good-length}
 use Rattle.survey.specs.Walk.{surveyed}
 use Rattle.index.specs.Reading.{chainFrom, chainOf, entriesIn, over}
 use Rattle.index.specs.Reading.{sizes, recoveredAs, Recovery, recoveryIs, isShort, recoveryOf}
-use Rattle.index.specs.Rows.{row-given, row-passed}
+use Rattle.steps.specs.Refusals.{row-given, row-left}
 use Rattle.index.specs.SoundTest.{survey-sound, says-yes, says-no, sound-chain}
 use Rattle.index.specs.Filling.{Buffers, buffers, fill, fill-one, fill-whole}
 use Rattle.index.specs.Along.{chain-on, chain-last, chain-over}
@@ -130,7 +130,7 @@ module _ (l : List ℕ) (ks vs : List ℕ) where
 
   pub recovery-short : badImage (length l) ≡ false → short ≡ true → recoveryIs (recoveredAs ShortBuffer) ks vs ≡ recoveryOf l ks vs
   unfolding recoveryOf
-  recovery-short fine e = sym (ap (recoveryOn (length (entriesIn l))) (row-passed 1 _ fine ∙ row-given 8 _ e))
+  recovery-short fine e = sym (ap (recoveryOn (length (entriesIn l))) (row-left 1 _ fine ∙ row-given 8 _ e))
 
   module _ (fine : badImage (length l) ≡ false) (wide : short ≡ false) where
     pub recovery-unsound : (surveyed (leaves l) (blocks l) 0 .stage ≡ 1 → ⊥)
@@ -138,7 +138,7 @@ module _ (l : List ℕ) (ks vs : List ℕ) where
     unfolding recoveryOf
     recovery-unsound ne =
         sym (ap (recoveryOn (length (entriesIn l)))
-        (row-passed 1 _ fine ∙ row-passed 8 _ wide ∙ row-given 3 0 (ap not (says-no l 0 fine ne))))
+        (row-left 1 _ fine ∙ row-left 8 _ wide ∙ row-given 3 0 (ap not (says-no l 0 fine ne))))
 
     pub recovery-done : surveyed (leaves l) (blocks l) 0 .stage ≡ 1 → (n m : ℕ) (ks' vs' : List ℕ)
         → m ≡ surveyed (leaves l) (blocks l) 0 .entries
@@ -151,4 +151,4 @@ module _ (l : List ℕ) (ks vs : List ℕ) where
         ap (λ (x : Buffers). recoveryIs (sizes 0 (x .used) m) (x .keys) (x .values)) whole
         ∙ ap (λ (x : ℕ). recoveryOn x 0) (q ∙ entries-told l fine e)
         ∙ sym (ap (recoveryOn (length (entriesIn l)))
-        (row-passed 1 _ fine ∙ row-passed 8 _ wide ∙ row-passed 3 0 (ap not (says-yes l 0 fine e))))
+        (row-left 1 _ fine ∙ row-left 8 _ wide ∙ row-left 3 0 (ap not (says-yes l 0 fine e))))

@@ -13,7 +13,7 @@ use Rattle.leaf.specs.LeafLaws.{block-store}
 use Rattle.leaf.specs.Search.{lowestVacant, count}
 use Rattle.leaf.specs.SearchLaws.{vacant-at}
 use Rattle.steps.specs.Lists.{runAll, run-all, run-all-append}
-use Rattle.steps.specs.CallShapes.{storesFrom}
+use Rattle.steps.specs.Stores.{storesFrom}
 use Rattle.image.specs.Copies.{Copy}
 use Rattle.image.specs.EditMaps.{Fits}
 use Rattle.image.specs.WordSplit.{wordOf}

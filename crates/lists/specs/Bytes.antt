@@ -11,7 +11,7 @@ use lib.ListN.{length, set, List·getD-eq-default, length-set}
 use lib.Seq.{getD-set-same, getD-set-other}
 use borrow.Author.Tests.{lt-ltb}
 use Rattle.words.specs.Words.{byteOf, bytesOf, stores, storeAt, reads}
-use Rattle.words.specs.WordLaws.{Bytes, length-store, reads-store}
+use Rattle.words.specs.WordLaws.{Bytes, word-small, length-store, reads-store}
 use Rattle.words.specs.Update.{upd}
 use Rattle.steps.specs.declared.Step.{Step}
 use Rattle.steps.specs.declared.Step.the-variants.{Store as store, WriteBack as writeBack, Fence as fence}
@@ -25,7 +25,7 @@ use Rattle.image.specs.Map.{Entry}
 use Rattle.image.specs.Image.{blocks, leaves}
 use Rattle.image.specs.Potential.{phi}
 use Rattle.image.specs.Entries.{listOf}
-use Rattle.lists.specs.Served.{perCut, Proper, Left, spent, Served}
+use Rattle.lists.specs.Served.{perCut, Proper, Small, Left, spent, Served}
 
 -- a word stored in an image of bytes, at its place in words
 abbrev pub storeWord : List ℕ → ℕ → ℕ → List ℕ
@@ -45,6 +45,12 @@ pub record ServedBytes (rule : Rule) (l : List ℕ) (bs : List ℕ) (t : List St
   pub cuts : (n : ℕ) (a : ℕ → ℕ) → n ≤ length t → Permitted line rule (stepsOf t) n a
       → LeftBytes l (cut storeWord line (stepsOf t) a l n) (listOf (leaves l) bs) (spent t n) (phi (leaves l) bs + perCut)
       ⊎ LeftBytes l (cut storeWord line (stepsOf t) a l n) es (spent t n) (phi (leaves l) bs + perCut)
+
+-- ---- bytes make words of 64 bits
+
+pub reads-small : (l : List ℕ) → Bytes l → Small (reads l)
+unfolding reads
+reads-small l bytes p = word-small l _ bytes
 
 -- ---- a stored word is eight bytes
 

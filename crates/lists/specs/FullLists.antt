@@ -15,7 +15,7 @@ use Rattle.steps.specs.declared.Step.{Step}
 use Rattle.steps.specs.declared.Step.the-variants.{Store as store, WriteBack as writeBack}
 use Rattle.steps.specs.Lists.{runAll}
 use Rattle.steps.specs.Shapes.{twoParts}
-use Rattle.steps.specs.CallShapes.{storesFrom}
+use Rattle.steps.specs.Stores.{storesFrom}
 use Rattle.image.specs.Order.{slotsOf}
 use Rattle.lists.specs.Lists.{wordPlace, lowWord, highWord, headIn, putAt, plainPut}
 

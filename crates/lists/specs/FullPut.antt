@@ -21,7 +21,7 @@ use Rattle.steps.specs.Section.{Section}
 use Rattle.steps.specs.Encoding.{stepsOf}
 use Rattle.steps.specs.Lists.{Each, Into, each-append, runAll, run-all-append}
 use Rattle.steps.specs.Shapes.{Backed}
-use Rattle.steps.specs.CallShapes.{storesFrom}
+use Rattle.steps.specs.Stores.{storesFrom}
 use Rattle.image.specs.Map.{putIn}
 use Rattle.image.specs.Chain.{All, Sound}
 use Rattle.image.specs.ChainLaws.{all-map, all-split}

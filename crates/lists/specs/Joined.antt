@@ -9,15 +9,16 @@ use lib.ListN.{length, length-append}
 use Rattle.words.specs.Update.{upd}
 use Rattle.leaf.specs.Leaf.{view}
 use Rattle.steps.specs.declared.Step.{Step}
-use Rattle.steps.specs.BelowLaws.{by-parts, count-le, count-from, count-cong}
-use Rattle.steps.specs.Model.{Steps, line, run, cut, Rule, Permitted, isLineWrite, lineWrites, storesTo, made}
-use Rattle.steps.specs.Settling.{Settled, AllSettled, Lawful, arrives-permitted, permitted-arrives}
+use Rattle.steps.specs.BelowLaws.{count-le, count-from, count-cong}
+use Rattle.steps.specs.Model.{line, run, cut, Rule, isLineWrite, lineWrites}
+use Rattle.steps.specs.Settling.{Lawful}
 use Rattle.steps.specs.Section.{Section, section-cut}
-use Rattle.steps.specs.Concatenation.{from, Agree, rest, cut-cong, run-cong, cut-after, permitted-from}
-use Rattle.steps.specs.Concatenation.{all-settled-cong, run-from}
+use Rattle.steps.specs.Concatenation.{from, run-cong}
+use Rattle.steps.specs.Concatenation.{run-from}
 use Rattle.steps.specs.Encoding.{stepsOf}
 use Rattle.steps.specs.Lists.{Each, each-append, at-left, at-right}
-use Rattle.steps.specs.Shapes.{append-settled}
+use Rattle.steps.specs.Rules.{lines-in-lines}
+use Rattle.steps.specs.Shapes.{append-settled, append-cuts}
 use Rattle.image.specs.Map.{Entry}
 use Rattle.image.specs.Chain.{Sound}
 use Rattle.image.specs.ChainSize.{chain-unique}
@@ -52,7 +53,7 @@ module _ (rule : Rule) (L : Lawful rule) (w : ℕ → ℕ) (N : ℕ) (bs : List 
     settled = sec .settled;
     whole = rw is (record { chain = E .chain; sound = E .sound; list = E .list; within = E .pays });
     cuts = λ n a h ok. elim
-        (section-cut line (λ p q e. e) rule L upd (Harmless w bs) (Kept w bs) (λ y p v. kept-closed w bs y p v) (stepsOf l)
+        (section-cut line lines-in-lines rule L upd (Harmless w bs) (Kept w bs) (λ y p v. kept-closed w bs y p v) (stepsOf l)
         (length l)
         sec
         w
@@ -83,75 +84,13 @@ module _ (rule : Rule) (L : Lawful rule) (w : ℕ → ℕ) (N : ℕ) (bs : List 
 
 -- ---- two lists
 
--- two lists that agree in the steps taken permit the same arrivals
-settled-cong : (s t : Steps) (rule : Rule) (n i l : ℕ) → Agree s t n → Settled rule s n i l → Settled rule t n i l
-settled-cong s t rule n i l h r = record {
-  back = r .back;
-  flush = r .flush;
-  written = sym (h (r .back) (omega arith)) ∙ r .written;
-  fenced = sym (h (r .flush) (omega arith)) ∙ r .fenced;
-  ordered = r .ordered;
-  behind = r .behind;
-  taken = r .taken;
-}
-
-permitted-cong : (s t : Steps) (rule : Rule) → Lawful rule → (n : ℕ) (a : ℕ → ℕ) → Agree s t n
-    → Permitted line rule s n a → Permitted line rule t n a
-permitted-cong s t rule L n a h ok =
-    arrives-permitted line rule t n a (λ u. omega (arith, ok .most u, made-is n u h))
-    (λ i p v b e r.
-    omega (
-      arith,
-      permitted-arrives line rule s n L (λ p q e. e) a ok i p v b (h i b ∙ e)
-          (settled-cong t s rule n i (line p) (λ j c. sym (h j c)) r),
-      made-is i (line p) (λ j c. h j (omega arith)),
-    ))
-  where
-    made-is : (m u : ℕ) → Agree s t m → made line s m u ≡ made line t m u
-    made-is m u g =
-        count-cong (λ i. storesTo line u (s i)) (λ i. storesTo line u (t i)) m (λ i b. ap (storesTo line u) (g i b))
-
-module _ (rule : Rule) (L : Lawful rule) (k l : List Step) (all : AllSettled rule (stepsOf k) (length k)) where
-  first : Agree (stepsOf (k ++ l)) (stepsOf k) (length k)
-  first i h = at-left k l i h
-
-  -- what the cuts of both leave, the second taken from where the first was run, the cuts of the whole leave
-  pub join-cuts : (w : ℕ → ℕ) (Q : ℕ → (ℕ → ℕ) → Type 0)
-      → ((n : ℕ) (a : ℕ → ℕ) → n ≤ length k → Permitted line rule (stepsOf k) n a → Q n (cut upd line (stepsOf k) a w n))
-      → ((n : ℕ) (a : ℕ → ℕ) → n ≤ length l → Permitted line rule (stepsOf l) n a
-      → Q (length k + n) (cut upd line (stepsOf l) a (run upd (stepsOf k) w (length k)) n))
-      → (n : ℕ) (a : ℕ → ℕ) → n ≤ length k + length l → Permitted line rule (stepsOf (k ++ l)) n a
-      → Q n (cut upd line (stepsOf (k ++ l)) a w n)
-  join-cuts w Q A B =
-      by-parts (length k)
-      (λ n. (a : ℕ → ℕ) → n ≤ length k + length l → Permitted line rule s n a → Q n (cut upd line s a w n))
-      (λ n h a b ok.
-      rw (cut-cong s (stepsOf k) upd line a w n (λ i c. first i (omega arith)))
-      (A n a (omega arith) (permitted-cong s (stepsOf k) rule L n a (λ i c. first i (omega arith)) ok)))
-      (λ n a b ok.
-      rw (
-        cut-after line (λ p q e. e) rule L s (length k) upd still n a w ok,
-        onward,
-        run-cong s (stepsOf k) upd w (length k) first,
-      )
-      (B n (rest line s (length k) a) (omega arith)
-      (rw onward at (permitted-from line (λ p q e. e) rule L s (length k) n a ok))))
-    where
-      s : Steps
-      s = stepsOf (k ++ l)
-
-      onward : from (length k) (stepsOf (k ++ l)) ≡ stepsOf l
-      onward = fun-ext (at-right k l)
-
-      still : AllSettled rule (stepsOf (k ++ l)) (length k)
-      still = all-settled-cong (stepsOf k) (stepsOf (k ++ l)) rule (length k) (λ i h. sym (first i h)) all
-
+module _ (k l : List Step) where
   -- what the first steps of the whole cost
   spent-first : (n : ℕ) → n ≤ length k → spent (k ++ l) n ≡ spent k n
   spent-first n h =
       ap (λ (x : ℕ). perLine * x)
       (count-cong (λ i. isLineWrite (stepsOf (k ++ l) i)) (λ i. isLineWrite (stepsOf k i)) n
-      (λ i b. ap isLineWrite (first i (omega arith))))
+      (λ i b. ap isLineWrite (at-left k l i (omega arith))))
 
   spent-on : (n : ℕ) → spent (k ++ l) (length k + n) ≡ spent k (length k) + spent l n
   spent-on n =
@@ -169,7 +108,7 @@ pub join-served : (rule : Rule) (L : Lawful rule) (w : ℕ → ℕ) (N : ℕ) (b
     → Sound (view x) N cs → Served rule x N cs l m price → Served rule w N bs (k ++ l) m price
 join-served rule L w N bs cs k l m price A x is S B = record {
   proper = each-append (Proper N) k l (A .proper) (B .proper);
-  settled = rw (length-append k l) (append-settled line (λ p q e. e) rule L k l (A .settled) (B .settled));
+  settled = rw (length-append k l) (append-settled line lines-in-lines rule L k l (A .settled) (B .settled));
   whole = rw (
     length-append k l,
     run-from upd (stepsOf (k ++ l)) w (length k) (length l),
@@ -179,8 +118,8 @@ join-served rule L w N bs cs k l m price A x is S B = record {
   )
       (on (length l) (run upd (stepsOf l) x (length l)) m price (B .whole));
   cuts = λ n a h.
-      join-cuts rule L k l (A .settled) w Q
-      (λ n a h ok. inl (rw (spent-first rule L k l (A .settled) n h) (elim (A .cuts n a h ok) [ inl y ↦ y | inr y ↦ y ])))
+      append-cuts line lines-in-lines rule L k l (A .settled) upd w Q
+      (λ n a h ok. inl (rw (spent-first k l n h) (elim (A .cuts n a h ok) [ inl y ↦ y | inr y ↦ y ])))
       (λ n a h ok. rw is (elim (B .cuts n a h ok) [
         | inl y ↦ inl (rw (← same) (on n (cut upd line (stepsOf l) a x n) (listOf (view x) cs) perCut y))
         | inr y ↦ inr (on n (cut upd line (stepsOf l) a x n) m perCut y)
@@ -216,5 +155,5 @@ join-served rule L w N bs cs k l m price A x is S B = record {
       chain = r .chain;
       sound = r .sound;
       list = r .list;
-      within = omega (arith, spent-on rule L k l (A .settled) n, r .within, paid);
+      within = omega (arith, spent-on k l n, r .within, paid);
     }

@@ -16,8 +16,7 @@ pub mod NewLeaf
 pub mod FullPut
 pub mod Put
 pub mod AfterSplit
--- In bytes: demand 2 and the rows of demand 3 for the three calls.
+-- In bytes: demand 2 and the rows of demand 3.
 pub mod Bytes
-pub mod Calls
 -- The slips that document 01 names, computed.
 pub mod Slips

@@ -15,7 +15,7 @@ use Rattle.leaf.specs.LeafLaws.{block-at, block-agree}
 use Rattle.steps.specs.declared.Step.{Step}
 use Rattle.steps.specs.declared.Step.the-variants.{Store as store}
 use Rattle.steps.specs.Lists.{Each, runAll}
-use Rattle.steps.specs.CallShapes.{storesFrom}
+use Rattle.steps.specs.Stores.{storesFrom}
 use Rattle.image.specs.Chain.{All}
 use Rattle.image.specs.ChainLaws.{all-join}
 use Rattle.image.specs.Stored.{Stored, insertS}

@@ -16,6 +16,7 @@ use Rattle.steps.specs.Model.{line, run, Rule, isLineWrite, isWordWrite}
 use Rattle.steps.specs.Settling.{Lawful}
 use Rattle.steps.specs.Section.{Section}
 use Rattle.lists.specs.Served.{linesOf, wordsOf}
+use Rattle.steps.specs.Rules.{lines-in-lines}
 use Rattle.steps.specs.Shapes.{oneStore, twoParts, Backed, two-part-section}
 
 -- ---- counting along a list
@@ -131,4 +132,4 @@ module _ (s r t : List Step) (p v : ℕ) where
       → Section line rule U (stepsOf (twoParts s r t p v)) (length (twoParts s r t p v))
   parts-section rule L U a b c =
       let e : length s + (length r + 1) + length t + 3 ≡ length (twoParts s r t p v) = omega (arith, parts-length) in
-      rw e at (two-part-section line (λ p q e. e) rule L U s r t p v a b c)
+      rw e at (two-part-section line lines-in-lines rule L U s r t p v a b c)

@@ -18,6 +18,7 @@ use Rattle.steps.specs.Settling.{Lawful}
 use Rattle.steps.specs.Section.{Section}
 use Rattle.steps.specs.Encoding.{stepsOf}
 use Rattle.steps.specs.Lists.{Each, Into, into-map}
+use Rattle.steps.specs.Rules.{lines-in-lines}
 use Rattle.steps.specs.Shapes.{Backed, one-line-section}
 use Rattle.image.specs.Map.{putIn}
 use Rattle.image.specs.Chain.{Sound}
@@ -73,7 +74,7 @@ module _ (rule : Rule) (L : Lawful rule) (w : ℕ → ℕ) (small : Small w) (N 
         (omega (arith, inside), key),
         ((omega (arith, inside), val), ((omega (arith, inside), low-small (newHead (block w b) s k)), (omega (arith, inside), (tt, tt)))),
       )
-      (one-line-section line (λ p q e. e) rule L (Harmless w bs) (entrySteps b s k v) (wordPlace b 0) low (
+      (one-line-section line lines-in-lines rule L (Harmless w bs) (entrySteps b s k v) (wordPlace b 0) low (
         (harmless (2 + 2 * s) k (of-key s slot vacant refl) (omega arith), omega arith),
         ((harmless (3 + 2 * s) v (of-val s slot vacant refl) (omega arith), omega arith), tt),
       ))

@@ -17,6 +17,7 @@ use Rattle.leaf.specs.LeafLaws.{block-at, block-past}
 use Rattle.leaf.specs.Search.{count}
 use Rattle.steps.specs.Model.{Rule, line}
 use Rattle.steps.specs.Settling.{Lawful}
+use Rattle.steps.specs.Rules.{lines-in-lines}
 use Rattle.steps.specs.Shapes.{oneStore, one-line-section}
 use Rattle.image.specs.Map.{putIn, without}
 use Rattle.image.specs.Chain.{Sound}
@@ -47,7 +48,7 @@ module _ (rule : Rule) (L : Lawful rule) (w : ℕ → ℕ) (N : ℕ) (bs : List 
   one-served p v inside small cs sound less =
       section-served rule L w N bs S (oneStore p v) (listOf (view (upd w p v)) cs) perChange
       ((inside, small), (omega arith, (tt, tt)))
-      (one-line-section line (λ p q e. e) rule L (Harmless w bs) [] p v tt)
+      (one-line-section line lines-in-lines rule L (Harmless w bs) [] p v tt)
       (upd w p v)
       refl
       (record { chain = cs; sound = sound; list = refl; few = omega arith; fair = omega arith; pays = omega arith })

@@ -16,7 +16,7 @@ use Rattle.leaf.specs.declared.search.Slot.{Slot}
 use Rattle.leaf.specs.declared.search.Slot.the-variants.{At, Missing}
 use Rattle.steps.specs.declared.Step.the-variants.{Store as store}
 use Rattle.steps.specs.Lists.{Each, each-append}
-use Rattle.steps.specs.CallShapes.{storesFrom, stores-length}
+use Rattle.steps.specs.Stores.{storesFrom, stores-length}
 use Rattle.image.specs.Copies.{Copy}
 use Rattle.image.specs.Order.{onward, slotsFrom, slotsOf}
 use Rattle.image.specs.Blocks.{view-size}

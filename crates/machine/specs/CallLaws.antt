@@ -52,12 +52,6 @@ answer-of BadArrivals BadArrivals e = refl
 -- ---- accepted
 
 module _ (image list : List ℕ) (n : ℕ) where
-  pub run-passed : runOf image list n .answer ≡ 0 → Passed (length image) list n
-  run-passed e =
-      let a = row-passed 1 (badImage (length image)) (cond (badList (length image) list n) 7 0) (omega arith) e in
-      let b = row-passed 7 (badList (length image) list n) 0 (omega arith) (a .1) in
-      passed (length image) list n (a .0) (b .0)
-
   pub run-accepted : Passed (length image) list n
       → (runOf image list n .answer ≡ 0) × (runOf image list n .image ≡ run storeWord (stepAt list) image n)
   run-accepted P = let p = passes (length image) list n P in rw (p .0, p .1) (refl, refl)

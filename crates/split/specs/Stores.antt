@@ -11,7 +11,7 @@ use Rattle.steps.specs.declared.Step.{Step}
 use Rattle.steps.specs.declared.Step.the-variants.{Store as store, Fence as fence}
 use Rattle.steps.specs.Encoding.{written, putStep}
 use Rattle.steps.specs.Shapes.{oneStore}
-use Rattle.steps.specs.CallShapes.{storesFrom, stores-length}
+use Rattle.steps.specs.Stores.{storesFrom, stores-length}
 use Rattle.lists.specs.Lists.{wordPlace, sibPlace, lowWord, highWord, headIn}
 use Rattle.lists.specs.FullLists.{movedSlots, goesUp, newHeader, entryWords, newWords, clearedAll, switchedHead}
 use Rattle.lists.specs.FullLists.{splitStores, splitBacks, splitList}

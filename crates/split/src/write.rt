@@ -19,7 +19,7 @@ ghost use Rattle.header.specs.Header.{bitsOf, headAt};
 ghost use Rattle.leaf.specs.Leaf.{leafIn, view};
 ghost use Rattle.steps.specs.declared.Step.the-variants.{Fence as fence};
 ghost use Rattle.steps.specs.Encoding.{written};
-ghost use Rattle.steps.specs.CallShapes.{storesFrom};
+ghost use Rattle.steps.specs.Stores.{storesFrom};
 ghost use Rattle.lists.specs.Lists.{wordPlace, lowWord, highWord, headIn};
 ghost use Rattle.lists.specs.FullLists.{movedSlots, goesUp, entryWords, newWords, splitBacks, splitList};
 ghost use Rattle.emit.specs.Appended.{appended};

@@ -10,7 +10,6 @@ use Rattle.steps.specs.Model.{store, writeBack, fence, Steps, line, made
 use Rattle.steps.specs.Model.{Rule, rule01, isSettled, settled, Permitted}
 use Rattle.steps.specs.Settling.{settled-made}
 use Rattle.steps.specs.Encoding.{stepsOf}
-use Rattle.steps.specs.Rules.{rule04, word}
 
 -- ---- the two ends
 
@@ -34,14 +33,10 @@ module _ (unit : ℕ → ℕ) (rule : Rule) (s : Steps) where
 abbrev early : Steps
 early = stepsOf (writeBack 0 ∷ store 0 5 ∷ fence ∷ [])
 
--- the store is settled (under request [4]'s rule it will not be); with no fence none is, and a fence before it settles nothing
+-- the store is settled; with no fence none is, and a fence before it settles nothing
 early-settled : settled line rule01 early 3 0 ≡ 1
 unfolding isSettled
 early-settled = refl
-
-early-unsettled : settled line rule04 early 3 0 ≡ 0
-unfolding isSettled
-early-unsettled = refl
 
 no-fence : settled line rule01 (stepsOf (store 0 5 ∷ writeBack 0 ∷ writeBack 0 ∷ [])) 3 0 ≡ 0
 unfolding isSettled
@@ -59,12 +54,9 @@ three = stepsOf (store 0 7 ∷ store 1 8 ∷ store 8 9 ∷ store 0 6 ∷ [])
 abbrev zeros : List ℕ
 zeros = 0 ∷ 0 ∷ 0 ∷ 0 ∷ 0 ∷ 0 ∷ 0 ∷ 0 ∷ 0 ∷ []
 
--- of the three stores to line 0 two arrive, of line 1 none; torn lines can lose the first store and keep a later one
+-- of the three stores to line 0 two arrive, of line 1 none
 in-order : cut set line three (λ u. cond (eqb u 0) 2 0) zeros 4 ≡ 7 ∷ 8 ∷ 0 ∷ 0 ∷ 0 ∷ 0 ∷ 0 ∷ 0 ∷ 0 ∷ []
 in-order = refl
-
-in-pieces : cut set word three (λ u. cond (eqb u 1) 1 0) zeros 4 ≡ 0 ∷ 8 ∷ 0 ∷ 0 ∷ 0 ∷ 0 ∷ 0 ∷ 0 ∷ 0 ∷ []
-in-pieces = refl
 
 -- ---- line writes and word writes
 

@@ -93,10 +93,10 @@ module _ (unit : ℕ → ℕ) (W : InLines unit) (rule : Rule) (L : Lawful rule)
         (settled-mono (k + n) (omega arith) (all i p v l e))))
 
     -- so if the cuts of both parts leave memories of Q, those of the whole do
-    pub cuts-join : (m : M) (Q : M → Type 0) (l : ℕ) → Cuts write unit rule s m k Q
-        → Cuts write unit rule (from k s) (run write s m k) l Q → Cuts write unit rule s m (k + l) Q
+    pub cuts-join : (m : M) (Q : ℕ → M → Type 0) (l : ℕ) → Cuts write unit rule s m k Q
+        → Cuts write unit rule (from k s) (run write s m k) l (λ n. Q (k + n)) → Cuts write unit rule s m (k + l) Q
     cuts-join m Q l A B =
-        by-parts k (λ n. (a : ℕ → ℕ) → n ≤ k + l → Permitted unit rule s n a → Q (cut write unit s a m n))
+        by-parts k (λ n. (a : ℕ → ℕ) → n ≤ k + l → Permitted unit rule s n a → Q n (cut write unit s a m n))
         (λ n h a le ok. A n a (omega arith) ok)
         (λ n a le ok. rw (cut-after n a m ok) (B n (rest unit s k a) (omega arith) (permitted-from n a ok)))
 
@@ -105,9 +105,9 @@ pub two-sections : (unit : ℕ → ℕ) → InLines unit → (rule : Rule) → L
     (U U′ : ℕ → ℕ → Type 0) (R R′ : M → Type 0) → Closed write U R → Closed write U′ R′
     → (s : Steps) (k l : ℕ) → Section unit rule U s k → Section unit rule U′ (from k s) l
     → (m : M) → R m → R′ (run write s m k)
-    → Cuts write unit rule s m (k + l) (λ x. R x ⊎ (R′ x ⊎ (x ≡ run write s m (k + l))))
+    → Cuts write unit rule s m (k + l) (λ n x. R x ⊎ (R′ x ⊎ (x ≡ run write s m (k + l))))
 two-sections unit W rule L write U U′ R R′ up up′ s k l A B m r r′ =
-    cuts-join unit W rule L s k write (A .settled) m (λ x. R x ⊎ (R′ x ⊎ (x ≡ run write s m (k + l)))) l
+    cuts-join unit W rule L s k write (A .settled) m (λ n x. R x ⊎ (R′ x ⊎ (x ≡ run write s m (k + l)))) l
     (λ n a le ok. elim (section-cut unit W rule L write U R up s k A m r n a le ok) [
       | inl x ↦ inl x
       | inr e ↦ inr (inl (rw e r′))
@@ -160,7 +160,7 @@ module _ (s t : Steps) where
       (permitted-arrives unit rule t n L W a ok i p v l (sym (h i l) ∙ e) (settled-cong rule n i (line p) h r)))
 
   pub cuts-cong : {M : Type 0} (write : M → ℕ → ℕ → M) (unit : ℕ → ℕ) → InLines unit → (rule : Rule) → Lawful rule
-      → (m : M) (N : ℕ) (Q : M → Type 0) → Agree s t N → Cuts write unit rule s m N Q → Cuts write unit rule t m N Q
+      → (m : M) (N : ℕ) (Q : ℕ → M → Type 0) → Agree s t N → Cuts write unit rule s m N Q → Cuts write unit rule t m N Q
   cuts-cong write unit W rule L m N Q h A n a le ok =
       rw (← (cut-cong write unit a m n (λ i l. h i (omega arith))))
       (A n a le (permitted-cong unit W rule L n a (λ i l. h i (omega arith)) ok))

@@ -8,7 +8,7 @@ pub mod Encoding
 pub mod Lists
 pub mod EncodingLaws
 pub mod Shapes
-pub mod CallShapes
+pub mod Stores
 pub mod Rules
 pub mod LastFence
 pub mod Views

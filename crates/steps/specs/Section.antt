@@ -31,9 +31,9 @@ pub record Section (unit : ℕ → ℕ) (rule : Rule) (U : ℕ → ℕ → Type 
 abbrev pub Closed : {M : Type 0} → (M → ℕ → ℕ → M) → (ℕ → ℕ → Type 0) → (M → Type 0) → Type 0
 Closed {M} write U R = (x : M) (p v : ℕ) → U p v → R x → R (write x p v)
 
--- every permitted cut of the first N steps leaves a memory of Q
-abbrev pub Cuts : {M : Type 0} → (M → ℕ → ℕ → M) → (ℕ → ℕ) → Rule → Steps → M → ℕ → (M → Type 0) → Type 0
-Cuts write unit rule s m N Q = (n : ℕ) (a : ℕ → ℕ) → n ≤ N → Permitted unit rule s n a → Q (cut write unit s a m n)
+-- every permitted cut after n of the first N steps leaves a memory of Q n
+abbrev pub Cuts : {M : Type 0} → (M → ℕ → ℕ → M) → (ℕ → ℕ) → Rule → Steps → M → ℕ → (ℕ → M → Type 0) → Type 0
+Cuts write unit rule s m N Q = (n : ℕ) (a : ℕ → ℕ) → n ≤ N → Permitted unit rule s n a → Q n (cut write unit s a m n)
 
 -- ---- what a step leaves
 
@@ -95,7 +95,7 @@ module _ (unit : ℕ → ℕ) {M : Type 0} (write : M → ℕ → ℕ → M) whe
 module _ (unit : ℕ → ℕ) (W : InLines unit) (rule : Rule) (L : Lawful rule) {M : Type 0} (write : M → ℕ → ℕ → M)
     (U : ℕ → ℕ → Type 0) (R : M → Type 0) (up : Closed write U R) where
   pub section-cut : (s : Steps) (N : ℕ) → Section unit rule U s N → (m : M) → R m
-      → Cuts write unit rule s m N (λ x. R x ⊎ (x ≡ run write s m N))
+      → Cuts write unit rule s m N (λ n x. R x ⊎ (x ≡ run write s m N))
   section-cut s N S m r n a le ok = early (decLt (S .last) n)
     where
       here : ℕ

@@ -197,9 +197,9 @@ module _ (unit : ℕ → ℕ) (W : InLines unit) (rule : Rule) (L : Lawful rule)
       (all-settled-cong (stepsOf l) (from (length k) (stepsOf (k ++ l))) rule (length l) (λ i h. sym (at-right k l i)) B)
 
   -- what the cuts of both leave, the second taken from where the first was run, the cuts of the whole leave
-  pub append-cuts : {M : Type 0} (write : M → ℕ → ℕ → M) (m : M) (Q : M → Type 0)
+  pub append-cuts : {M : Type 0} (write : M → ℕ → ℕ → M) (m : M) (Q : ℕ → M → Type 0)
       → Cuts write unit rule (stepsOf k) m (length k) Q
-      → Cuts write unit rule (stepsOf l) (run write (stepsOf k) m (length k)) (length l) Q
+      → Cuts write unit rule (stepsOf l) (run write (stepsOf k) m (length k)) (length l) (λ n. Q (length k + n))
       → Cuts write unit rule (stepsOf (k ++ l)) m (length k + length l) Q
   append-cuts {M} write m Q A B =
       cuts-join unit W rule L (stepsOf (k ++ l)) (length k) write still m Q (length l)

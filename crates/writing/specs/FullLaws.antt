@@ -14,7 +14,7 @@ use Rattle.image.specs.Image.{leaves}
 use Rattle.lists.specs.Lists.{headIn}
 use Rattle.lists.specs.FullLists.{movedSlots}
 use Rattle.lists.specs.FullPut.{moved}
-use Rattle.lists.specs.Calls.{reads-small}
+use Rattle.lists.specs.Bytes.{reads-small}
 use Rattle.split.specs.Full.{Holds}
 use Rattle.writing.specs.BlockLaws.{part-head}
 

@@ -3,7 +3,7 @@ use mathlib.Core.Path.{_≡_, refl, ap, _∙_}
 use Prim.Native.Nat.{_+_, _-_, _*_, _≤_}
 use lib.ListN.{length, drop}
 use Rattle.leaf.specs.Leaf.{leafIn}
-use Rattle.steps.specs.CallShapes.{storesFrom}
+use Rattle.steps.specs.Stores.{storesFrom}
 use Rattle.lists.specs.FullLists.{entryWords}
 use Rattle.emit.specs.Appended.{appended, appended-length}
 use Rattle.split.specs.Stores.{entries-start, entries-next, entries-end}

@@ -2,7 +2,7 @@ use native.Mathlib.Omega.{arith}
 use mathlib.Core.Path.{_≡_, refl, ap, _∙_}
 use Prim.Native.Nat.{_+_, _-_, _≤_}
 use lib.ListN.{length, length-set, replicate}
-use Rattle.steps.specs.CallShapes.{storesFrom}
+use Rattle.steps.specs.Stores.{storesFrom}
 use Rattle.emit.specs.Appended.{appended}
 use Rattle.split.specs.Stores.{zeros-start, zeros-next, zeros-end}
 use Rattle.split.proofs.write.append_zeros.Statement.{statement}

@@ -3,7 +3,7 @@ use mathlib.Core.Path.{ap, _∙_}
 use Prim.Native.Nat.{ℕ, _*_}
 use Rattle.header.specs.Header.{bitsOf}
 use Rattle.leaf.specs.Leaf.{leafIn}
-use Rattle.steps.specs.CallShapes.{storesFrom}
+use Rattle.steps.specs.Stores.{storesFrom}
 use Rattle.lists.specs.FullLists.{newWords}
 use Rattle.emit.specs.Appended.{appended, start-place}
 use Rattle.split.specs.Stores.{new-leaf}
