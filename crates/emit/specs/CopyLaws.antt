@@ -52,15 +52,6 @@ copies-more occ i t (suc n) =
     on-from : (k : ℕ) → suc i + k ≡ i + suc k
     on-from k = omega arith
 
-pub copies-most : (occ : ℕ → Bool) (i t n : ℕ) → length (copies occ i t n) ≤ n
-unfolding copies
-copies-most occ i t zero = omega arith
-copies-most occ i t (suc n) =
-    by-test (λ b. length (cond b (copies occ i (suc t) n)
-    (record { from = i; to = t } ∷ copies occ (suc i) (suc t) n)) ≤ suc n) (occ t)
-    (λ e. omega (arith, copies-most occ i (suc t) n))
-    (λ e. omega (arith, copies-most occ (suc i) (suc t) n))
-
 -- the steps and the header of two runs of copies
 module _ (L : Leaf) where
   pub steps-append : (b : ℕ) (k l : List Copy) → copySteps L b (k ++ l) ≡ copySteps L b k ++ copySteps L b l

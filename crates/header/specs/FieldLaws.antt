@@ -1,5 +1,5 @@
 -- What replacing a run of bits changes and leaves, and that shifts compute it.
-use mathlib.Core.Path.{_≡_, refl, sym, ap, _∙_}
+use mathlib.Core.Path.{_≡_, sym, ap, _∙_}
 use Prim.Native.Nat.{ℕ, _+_, _-_, _*_, _/_, _%_, _^_, _≤_, _<_}
 use native.Mathlib.Nat.{le-trans, mod-le, one-mul, mod-lt, add-assoc, mul-assoc, add-mul}
 use native.Mathlib.Decide.{decLt}

@@ -1,14 +1,14 @@
 -- What a client knows of a header: what marking, clearing and flipping change, and that they leave every other bit and fingerprint,
 -- the lock and alt; that a header has two words; that a fingerprint is a byte, and which byte of the leaf it is.
-use mathlib.Core.Path.{_≡_, refl, sym, ap, _∙_}
-use mathlib.Core.Bool.{Bool, true, false}
+use mathlib.Core.Path.{_≡_, refl, ap, _∙_}
+use mathlib.Core.Bool.{true, false}
 use mathlib.Core.List.{List}
 use mathlib.Core.Logic.{_≢_}
-use Prim.Native.Nat.{ℕ, zero, suc, _+_, _-_, _*_, _/_, _%_, _^_, _≤_, _<_}
+use Prim.Native.Nat.{ℕ, zero, suc, _+_, _-_, _*_, _/_, _%_, _^_, _<_}
 use native.Mathlib.Decide.{decLt}
 use native.Mathlib.Nat.{pow-suc}
 use native.Mathlib.Omega.{arith}
-use lib.Bits.{bitXor, xor-lt}
+use lib.Bits.{xor-lt}
 use lib.Dec.{eqb, lit<}
 use lib.ListN.{getD}
 use lib.Pow.{pow-add}
@@ -118,9 +118,6 @@ module _ (n : ℕ) where
 
 pub whole-low : (l h n : ℕ) → l < 2 ^ 64 → whole l h ≡ n → l ≡ n % 2 ^ 64
 whole-low l h n small e = omega arith
-
-pub whole-high : (l h n : ℕ) → l < 2 ^ 64 → whole l h ≡ n → h ≡ n / 2 ^ 64
-whole-high l h n small e = omega arith
 
 -- ---- a fingerprint is a byte
 

@@ -4,11 +4,11 @@ use mathlib.Core.Path.{_≡_, refl, sym, ap, _∙_}
 use mathlib.Core.List.{List, [], _∷_, _++_}
 use mathlib.Core.Logic.{inl}
 use mathlib.Core.Option.{Option, some, none}
-use Prim.Native.Nat.{ℕ, zero, suc, _≤_, _<_}
+use Prim.Native.Nat.{ℕ, _≤_, _<_}
 use native.Mathlib.Omega.{arith}
 use Rattle.leaf.specs.Leaf.{Leaf, Taken, In, Right}
 use Rattle.leaf.specs.Search.{slotOf, leastFrom, keyOr0, smallestOf}
-use Rattle.leaf.specs.SearchLaws.{Holds, slot-at, slot-of, slot-missing, Least, least-at, least-none}
+use Rattle.leaf.specs.SearchLaws.{Holds, slot-at, slot-missing, Least, least-at, least-none}
 use Rattle.leaf.specs.declared.search.Slot.{Slot}
 use Rattle.leaf.specs.declared.search.Slot.the-variants.{At, Missing}
 use Rattle.image.specs.Map.{Altered, Lists, putIn, without, lookup}
@@ -19,8 +19,7 @@ use Rattle.image.specs.Stretch.{Changed, part-good}
 use Rattle.image.specs.Changes.{Stays}
 use Rattle.image.specs.Target.{Target}
 use Rattle.image.specs.TargetLaws.{target-find}
-use Rattle.image.specs.Same.{Slots, slots-taken, taken-slots, slots-right}
-use Rattle.image.specs.Order.{onward, slotsFrom}
+use Rattle.image.specs.Same.{Slots, slots-taken, taken-slots}
 use Rattle.image.specs.Entries.{listOf, chain-lists}
 
 -- ---- the lists after a change
@@ -73,23 +72,6 @@ find-lookup I N xs b ys S k t = go (slotOf (I b) k) refl
 -- ---- leaves that agree
 
 module _ {L M : Leaf} (S : Slots L M) (r : Right L) where
-  pub slots-slot : (k : ℕ) → slotOf M k ≡ slotOf L k
-  slots-slot k = go (slotOf L k) (slotOf M k) refl refl
-    where
-      q : Right M
-      q = slots-right S r
-
-      go : (x y : Slot) → slotOf L k ≡ x → slotOf M k ≡ y → slotOf M k ≡ slotOf L k
-      go (At s) y e f =
-          let h : Holds L k s = (slot-at L k s e) .1 in
-          let g : M .key s ≡ k = S .key s (h .taken) ∙ h .key in
-          ap (slotOf M) (sym g) ∙ slot-of M q s (taken-slots S s (h .taken)) ∙ sym e
-      go Missing (At t) e f =
-          let h : Holds M k t = (slot-at M k t f) .1 in
-          let u : Taken L t = slots-taken S t (h .taken) in
-          absurd (slot-missing L r k e t u (sym (S .key t u) ∙ h .key))
-      go Missing Missing e f = f ∙ sym e
-
   -- the key that M has in an occupied slot of L, and that the slot is one of M's
   key-is : (s : ℕ) → Taken L s → (M .key s ≡ L .key s) × (s < M .size)
   key-is s h = (S .key s h, rw (S .size) (r .inside s h))
@@ -124,15 +106,3 @@ module _ {L M : Leaf} (S : Slots L M) (r : Right L) where
       go : (x : Slot) → leastFrom L 0 ≡ x → keyOr0 M x ≡ keyOr0 L x
       go (At s) e = S .key s (least-at L 0 s e .taken)
       go Missing e = refl
-
-  pub slots-order : (n lo : ℕ) → slotsFrom M n lo ≡ slotsFrom L n lo
-  unfolding slotsFrom
-  slots-order zero lo = refl
-  slots-order (suc n) lo = rw (slots-least lo) (go (leastFrom L lo) refl (slots-order n))
-    where
-      go : (x : Slot) → leastFrom L lo ≡ x → ((m : ℕ) → slotsFrom M n m ≡ slotsFrom L n m)
-          → onward x (λ s. slotsFrom M n (suc (M .key s))) ≡ onward x (λ s. slotsFrom L n (suc (L .key s)))
-      go (At s) e ih =
-          ap (λ (m : ℕ). s ∷ slotsFrom M n (suc m)) (S .key s (least-at L lo s e .taken))
-          ∙ ap (λ (l : List ℕ). s ∷ l) (ih (suc (L .key s)))
-      go Missing e ih = refl

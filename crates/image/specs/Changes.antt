@@ -8,7 +8,6 @@ use native.Mathlib.Decide.{ℕ-discrete}
 use native.Mathlib.Omega.{arith}
 use Rattle.leaf.specs.Leaf.{Leaf, In}
 use Rattle.image.specs.Map.{SameMap}
-use Rattle.image.specs.MapLaws.{map-trans, altered-map}
 use Rattle.image.specs.Chain.{All, Starts, Distinct, Has, Filled, Sound}
 use Rattle.image.specs.ChainLaws.{all-split, all-zip, all-map, distinct-at, has-right, has-split, Good, Agree}
 use Rattle.image.specs.ChainLaws.{agree-sound, agree-map}
@@ -24,13 +23,6 @@ pub record Stays (I J : ℕ → Leaf) (N : ℕ) (bs cs : List ℕ) : Type 0 wher
 
 pub agree-stays : (I J : ℕ → Leaf) (N : ℕ) (bs : List ℕ) → Sound I N bs → Agree bs I J → Stays I J N bs bs
 agree-stays I J N bs S s = record { sound = agree-sound I J N bs s S; map = agree-map I J bs s }
-
-pub stays-changed : (I J K : ℕ → Leaf) (N : ℕ) (bs cs ds : List ℕ) (k : ℕ) (P : ℕ → Type 0) → Stays I J N bs cs
-    → Changed J K N cs ds k P → Changed I K N bs ds k P
-stays-changed I J K N bs cs ds k P s c = record {
-  sound = c .sound;
-  map = map-trans (c .map) (altered-map (Has J cs) (Has I bs) k P (s .map));
-}
 
 -- ---- lists of blocks with one more or one less
 

@@ -1,14 +1,14 @@
 -- How many slots are occupied: what an edit changes, and what the number says.
 use mathlib.Core.Path.{_≡_, refl, sym, ap, _∙_}
 use mathlib.Core.Bool.{Bool, true, false, cond}
-use Prim.Native.Nat.{ℕ, zero, suc, _+_, _≤_, _<_}
+use Prim.Native.Nat.{ℕ, zero, suc, _+_, _<_}
 use native.Mathlib.Decide.{ℕ-discrete}
 use native.Mathlib.Omega.{arith}
 use Rattle.words.specs.Bools.{differ}
 use Rattle.words.specs.Update.{upd, upd-same, upd-other}
 use Rattle.leaf.specs.Leaf.{Leaf, Taken, Right}
 use Rattle.leaf.specs.Search.{countTo, count}
-use Rattle.leaf.specs.SearchLaws.{count-most, count-none, count-some}
+use Rattle.leaf.specs.SearchLaws.{count-none, count-some}
 use Rattle.image.specs.Chain.{Filled}
 use Rattle.image.specs.Same.{Slots}
 use Rattle.image.specs.Edits.{erase, insert, erase-right, taken-erase}
@@ -38,18 +38,7 @@ count-upd f s x (suc n) h =
           omega (arith, count-upd f s x n (omega arith))
     ]
 
-all-bits : (f : ℕ → Bool) (n : ℕ) → countTo f n ≡ n → (s : ℕ) → s < n → f s ≡ true
-all-bits f n e s h = go (f s) refl
-  where
-    go : (b : Bool) → f s ≡ b → f s ≡ true
-    go true t = t
-    go false t = absurd (omega (arith, count-upd f s true n h, ap bit t, count-most (upd f s true) n))
-
 -- ---- of a leaf
-
-pub count-size : (L : Leaf) → count L ≤ L .size
-unfolding count
-count-size L = count-most (L .occ) (L .size)
 
 pub count-slots : {L M : Leaf} → Slots L M → count M ≡ count L
 unfolding count
@@ -76,10 +65,6 @@ unfolding count
 count-filled L h =
     let r : (s : ℕ) × (s < L .size) × (L .occ s ≡ true) = count-some (L .occ) (L .size) h in
     record { at = r .0; taken = r .2 }
-
-pub count-full : (L : Leaf) → count L ≡ L .size → (s : ℕ) → s < L .size → Taken L s
-unfolding count
-count-full L e s h = all-bits (L .occ) (L .size) e s h
 
 -- the only entry
 pub count-only : (L : Leaf) → Right L → (s t : ℕ) → count L ≡ 1 → Taken L s → Taken L t → t ≡ s

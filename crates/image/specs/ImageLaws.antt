@@ -22,7 +22,6 @@ use Rattle.steps.specs.Refusals.{badImage}
 use Rattle.image.specs.Image.{blocks, leaves, SoundImage, Blank, AlikeLeaf, Alike}
 use Rattle.image.specs.Same.{Same}
 use Rattle.image.specs.ChainLaws.{all-map, Good, sound-good, good-sound, Agree}
-use Rattle.image.specs.ChainSize.{chain-unique}
 use Rattle.image.specs.Parting.{emptyLeaf}
 use Rattle.image.specs.Stored.{read-zero}
 use Rattle.image.specs.ListLaws.{lists-unique}
@@ -55,10 +54,6 @@ pub length-good : (l : List ℕ) → Sized l → badImage (length l) ≡ false
 unfolding badImage
 length-good l s =
     rw (ne-eqb (length l) 0 (omega arith), le-ltb 65536 (length l) (omega arith), eq-eqb (length l % 256) 0 (omega arith))
-
--- an image has one chain
-pub image-chain : (l : List ℕ) (S : SoundImage l) (bs : List ℕ) → Sound (leaves l) (blocks l) bs → bs ≡ S .chain
-image-chain l S bs T = chain-unique (leaves l) (blocks l) bs (S .chain) T (S .sound)
 
 -- ---- the blank image
 

@@ -10,9 +10,8 @@ use Rattle.words.specs.Bools.{differ}
 use Rattle.leaf.specs.Leaf.{Leaf, Taken, In, Right}
 use Rattle.image.specs.Chain.{All, Starts, Has, Sound}
 use Rattle.image.specs.Target.{Reaches, Target}
-use Rattle.image.specs.Same.{own, slots-in}
-use Rattle.image.specs.ChainLaws.{all-split, distinct-at, has-right, has-split, Good, sound-good, Agree}
-use Rattle.image.specs.ChainLaws.{agree-map}
+use Rattle.image.specs.Same.{own}
+use Rattle.image.specs.ChainLaws.{all-split, distinct-at, has-right, has-split, Good, sound-good}
 use Rattle.image.specs.ChainSize.{Later, sound-later, chain-unique}
 use Rattle.image.specs.Stretch.{above-left}
 
@@ -143,11 +142,3 @@ target-unique I N k xs b ys xs′ b′ ys′ S T t u =
     (sound-later I N (xs′ ++ (b′ ∷ ys′)) T)
     t
     u
-
--- ---- of images that agree
-
-pub agree-target : (I J : ℕ → Leaf) (b : ℕ) (ys : List ℕ) (k : ℕ) → Agree (b ∷ ys) I J → Target I b ys k → Target J b ys k
-agree-target I J b ys k s t = record {
-  low = elim (t .low) [ inl e ↦ inl e | inr r ↦ inr (r .0, r .1, slots-in (s .0 .slots) (r .0) (r .1) (r .2), r .3) ];
-  high = λ j u h. t .high j u ((agree-map I J ys (s .1)) .to j u h);
-}

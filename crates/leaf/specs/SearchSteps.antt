@@ -1,16 +1,16 @@
 -- One turn of each loop over the slots, and each answer of a test, as a step of the definition that the loop computes.
 use mathlib.Core.Path.{_≡_, refl, sym, ap, _∙_}
-use mathlib.Core.Bool.{Bool, true, false, cond, not}
+use mathlib.Core.Bool.{Bool, true, false}
 use mathlib.Core.List.{List}
 use Prim.Native.Nat.{ℕ, zero, suc, _+_, _-_, _*_, _≤_, _<_}
 use native.Mathlib.Numerals.{add-one}
 use native.Mathlib.Omega.{arith}
 use borrow.Author.Tests.{eq-eqb, ne-eqb, le-leb, lt-leb}
-use lib.Dec.{ltb, leb, eqb}
+use lib.Dec.{leb, eqb}
 use Rattle.words.specs.Words.{wordAt, reads}
 use Rattle.words.specs.Bools.{both}
 use Rattle.header.specs.Header.{headAt, altIn, isLocked, isOccupied, fingerprintIn, fingerprintOf}
-use Rattle.leaf.specs.Leaf.{Leaf, occIn, leafIn}
+use Rattle.leaf.specs.Leaf.{Leaf, leafIn}
 use Rattle.leaf.specs.LeafLaws.{occ-in}
 use Rattle.leaf.specs.Search.{pickSlot, lowest, holdsKey, slotOf, Within, nearer, closer, closest, leastFrom, countTo}
 use Rattle.leaf.specs.declared.search.Slot.{Slot}

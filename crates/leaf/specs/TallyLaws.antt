@@ -1,11 +1,11 @@
 -- What a caller knows of a tally: no wrong fingerprint and no twin is a right leaf, and what the counts of keys say of each key.
 use mathlib.Core.Path.{_≡_, refl, sym, ap, _∙_}
-use mathlib.Core.Bool.{Bool, true, false, cond, not}
+use mathlib.Core.Bool.{true, false, cond, not}
 use mathlib.Core.Logic.{_⊎_, inl, inr}
-use Prim.Native.Nat.{ℕ, zero, suc, _+_, _≤_, _<_, max}
+use Prim.Native.Nat.{ℕ, zero, suc, _≤_, _<_, max}
 use native.Mathlib.Decide.{ℕ-discrete, decLt}
 use native.Mathlib.Omega.{arith}
-use borrow.Author.Tests.{eq-eqb, eqb-true, leb-true, leb-false, lt-leb, le-leb, not-false}
+use borrow.Author.Tests.{eq-eqb, eqb-true, leb-true, leb-false, lt-leb, not-false}
 use lib.Dec.{leb, eqb}
 use Rattle.words.specs.Bools.{both, both-true, by-test, differ, not-so}
 use Rattle.header.specs.Header.{fingerprintOf}

@@ -15,7 +15,7 @@ ghost use Rattle.words.specs.Words.{reads};
 ghost use Rattle.words.specs.Bools.{both};
 ghost use Rattle.header.specs.Header.{headAt, bitsOf};
 ghost use Rattle.leaf.specs.Leaf.{leafIn, view};
-ghost use Rattle.leaf.specs.Tally.{Tells, twins};
+ghost use Rattle.leaf.specs.Tally.{twins};
 ghost use Rattle.survey.specs.Marks.{setOf, isIn};
 ghost use Rattle.survey.specs.Walk.{stateOf, firstFault, stopped, moved, faultBy, judged, start, surveyed};
 

@@ -2,27 +2,27 @@
 use mathlib.Core.Path.{_≡_, refl, sym, ap, ap₂, _∙_}
 use mathlib.Core.Bool.{Bool, true, false, cond, not}
 use mathlib.Core.List.{List, [], _∷_, _++_, append-assoc}
-use mathlib.Core.Logic.{_⊎_, inl, inr, _≢_}
-use Prim.Native.Nat.{ℕ, zero, suc, _+_, _≤_, _<_}
-use native.Mathlib.Decide.{ℕ-discrete, decLt}
+use mathlib.Core.Logic.{inl, inr, _≢_}
+use Prim.Native.Nat.{ℕ, _+_, _≤_, _<_}
+use native.Mathlib.Decide.{ℕ-discrete}
 use native.Mathlib.Omega.{arith}
 use borrow.Author.Tests.{eq-eqb, ne-eqb, eqb-true, eqb-false, not-false}
 use lib.Dec.{eqb}
 use lib.ListN.{length, length-append}
 use Rattle.words.specs.Update.{upd, upd-same, upd-other}
-use Rattle.words.specs.Bools.{both, by-test, differ, not-so}
-use Rattle.leaf.specs.Leaf.{Leaf, Taken, In, Right}
+use Rattle.words.specs.Bools.{both, by-test, differ}
+use Rattle.leaf.specs.Leaf.{Leaf, Taken, In}
 use Rattle.leaf.specs.Search.{count, countTo}
 use Rattle.leaf.specs.SearchLaws.{count-none}
-use Rattle.leaf.specs.Tally.{wrongAt, atMost, mostTo, twins}
+use Rattle.leaf.specs.Tally.{atMost, mostTo}
 use Rattle.leaf.specs.TallyLaws.{tally-right, right-prints, right-twins, none-at-most, all-above, some-at-most, most-above, most-is}
-use Rattle.image.specs.Chain.{All, Has, Filled}
+use Rattle.image.specs.Chain.{All, Has}
 use Rattle.image.specs.ChainLaws.{all-join, all-map, all-split, has-split, has-left, has-right}
 use Rattle.image.specs.CountLaws.{count-filled}
 use Rattle.image.specs.Potential.{entries, sumOf}
 use Rattle.image.specs.Target.{Reaches}
-use Rattle.image.specs.Walk.{Stands, Walked, Onward, walk-on}
-use Rattle.survey.specs.Walk.{State, againBy, bareBy, lowBy, moved}
+use Rattle.image.specs.Walk.{Stands, Walked, walk-on}
+use Rattle.survey.specs.Walk.{State, againBy, moved}
 use Rattle.verdict.specs.Passed.{Passed}
 use Rattle.verdict.specs.Place.{reachesTo, targetFrom, beforeFrom}
 

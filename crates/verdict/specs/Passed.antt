@@ -1,11 +1,10 @@
 -- A leaf in which no fault is found, and one in which none is.
-use mathlib.Core.Path.{_≡_, refl, sym, ap, _∙_}
-use mathlib.Core.Bool.{Bool, true, false, cond, not}
+use mathlib.Core.Path.{_≡_, refl}
+use mathlib.Core.Bool.{Bool, true, false, not}
 use Prim.Native.Nat.{ℕ, _≤_, _<_}
 use native.Mathlib.Omega.{arith}
-use borrow.Author.Tests.{leb-false, lt-leb, eqb-true, eq-eqb, not-false}
+use borrow.Author.Tests.{leb-false, lt-leb, eqb-true, eq-eqb}
 use lib.Dec.{leb, eqb}
-use Rattle.words.specs.Bools.{by-test}
 use Rattle.leaf.specs.Leaf.{Leaf}
 use Rattle.leaf.specs.Search.{count, countTo}
 use Rattle.leaf.specs.Tally.{wrongAt, atMost, twins}

@@ -2,21 +2,16 @@
 -- image has the image's words, bytes are determined by their words, and a word is below 2^64.
 use mathlib.Core.Path.{_≡_, refl, sym, ap, _∙_, fun-ext}
 use mathlib.Core.List.{List, [], _∷_}
-use mathlib.Core.Logic.{_≢_}
-use Prim.Native.Nat.{ℕ, zero, suc, _+_, _-_, _*_, _/_, _%_, _^_, _≤_, _<_}
+use Prim.Native.Nat.{ℕ, zero, suc, _+_, _*_, _/_, _^_, _≤_, _<_}
 use native.Mathlib.Nat.{zero-add, add-suc, le-of-suc-le-suc, not-suc-le-zero, pow-suc, div-div-eq-div-mul, div-add-mod', div-one, div-eq-of-lt}
 use native.Mathlib.Decide.{ℕ-discrete, decLt}
 use native.Mathlib.Omega.{arith}
 use lib.ListN.{length, getD, set, take, drop, length-set, List·getD-eq-default}
-use lib.Seq.{ext-getD, getD-set-same, getD-set-other, getD-take, getD-drop}
-use Rattle.words.specs.Words.{pairAt, fourAt, wordAt, stores, byteOf, bytesOf, storeAt, reads}
+use lib.Seq.{getD-set-same, getD-set-other, getD-take, getD-drop}
+use Rattle.words.specs.Words.{wordAt, stores, byteOf, bytesOf, storeAt, reads}
 use Rattle.words.specs.Update.{upd, upd-same, upd-other}
 
 -- ---- the bytes of a number
-
-length-bytes : (v k n : ℕ) → length (bytesOf v k n) ≡ n
-length-bytes v k zero = refl
-length-bytes v k (suc n) = ap suc (length-bytes v (suc k) n)
 
 bytes-at : (v k n i : ℕ) → i < n → getD (bytesOf v k n) i 0 ≡ byteOf v (k + i)
 bytes-at v k zero i h = absurd (not-suc-le-zero h)
@@ -206,18 +201,6 @@ byte-word l p k h lt =
   where
     at : (x k : ℕ) → x ≡ p + k → getD l x 0 ≡ getD l (p + k) 0
     at x k e = rw e
-
-pub words-determine : (l m : List ℕ) → Bytes l → Bytes m → length l ≡ length m → length l % 8 ≡ 0
-    → ((i : ℕ) → 8 * i + 8 ≤ length l → reads l i ≡ reads m i) → l ≡ m
-unfolding reads
-words-determine l m bl bm same whole h = ext-getD 0 l m same (λ i lt. at i lt)
-  where
-    at : (i : ℕ) → i < length l → getD l i 0 ≡ getD m i 0
-    at i lt =
-        let e : 8 * (i / 8) + i % 8 ≡ i = omega arith in
-        ap (λ (k : ℕ). getD l k 0) (sym e) ∙ sym (byte-word l (8 * (i / 8)) (i % 8) bl (omega arith))
-        ∙ ap (λ (w : ℕ). byteOf w (i % 8)) (h (i / 8) (omega arith))
-        ∙ byte-word m (8 * (i / 8)) (i % 8) bm (omega arith) ∙ ap (λ (k : ℕ). getD m k 0) e
 
 -- there is no word past the end
 pub reads-past : (l : List ℕ) (i : ℕ) → length l ≤ 8 * i → reads l i ≡ 0

@@ -1,13 +1,13 @@
 -- A block of an image, as the code reads it.
-use mathlib.Core.Path.{_≡_, refl, sym, ap, ap₂, _∙_}
+use mathlib.Core.Path.{_≡_, sym, ap, ap₂, _∙_}
 use mathlib.Core.List.{List}
-use Prim.Native.Nat.{ℕ, _+_, _-_, _*_, _<_}
+use Prim.Native.Nat.{ℕ, _+_, _-_, _*_}
 use native.Mathlib.Omega.{arith}
 use lib.ListN.{take, drop}
 use Rattle.words.specs.Words.{wordAt, reads}
 use Rattle.words.specs.WordLaws.{reads-block}
 use Rattle.header.specs.Header.{whole, headAt}
-use Rattle.leaf.specs.Leaf.{Leaf, view}
+use Rattle.leaf.specs.Leaf.{view}
 use Rattle.leaf.specs.LeafLaws.{block-at}
 use Rattle.leaf.specs.Search.{slotOf, Within}
 use Rattle.leaf.specs.SearchLaws.{slot-at}

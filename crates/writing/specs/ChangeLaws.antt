@@ -1,13 +1,11 @@
 -- Each answer of set and del, from the tests that led to it.
-use mathlib.Core.Path.{_≡_, refl, sym, ap, ap₂, _∙_, subst}
+use mathlib.Core.Path.{_≡_, refl, sym, ap, _∙_}
 use mathlib.Core.Bool.{Bool, true, false, cond, not}
 use mathlib.Core.List.{List, [], _∷_}
-use mathlib.Core.Option.{Option, some, none}
 use Prim.Native.Nat.{ℕ, _≤_, _<_}
 use borrow.Author.Tests.{lt-ltb, le-ltb}
-use lib.Dec.{ltb, eqb}
+use lib.Dec.{eqb}
 use lib.ListN.{length}
-use Rattle.words.specs.Words.{reads}
 use Rattle.words.specs.Bools.{both, by-test}
 use Rattle.header.specs.Header.{altIn, cleared}
 use Rattle.leaf.specs.Leaf.{occIn, view}

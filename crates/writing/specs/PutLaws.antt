@@ -1,10 +1,9 @@
 -- Each answer of put, from the tests that led to it.
-use mathlib.Core.Path.{_≡_, refl, sym, ap, ap₂, _∙_, subst}
+use mathlib.Core.Path.{_≡_, refl, sym, ap, _∙_, subst}
 use mathlib.Core.Bool.{Bool, true, false, cond, not}
 use mathlib.Core.List.{List, [], _∷_}
 use mathlib.Core.Logic.{_≢_}
 use Prim.Native.Nat.{ℕ, _≤_, _<_}
-use native.Mathlib.Decide.{ℕ-discrete}
 use native.Mathlib.Omega.{arith}
 use borrow.Author.Tests.{eq-eqb, ne-eqb, eqb-true, eqb-false}
 use lib.Dec.{eqb}
@@ -30,7 +29,7 @@ use Rattle.index.specs.Reading.{entriesIn, isNone}
 use Rattle.index.specs.SoundTest.{Surveyed, survey-sound, sound-chain, noted-target as around}
 use Rattle.lists.specs.Lists.{headIn, putAt}
 use Rattle.lists.specs.FullLists.{fullPut, putInto, putList}
-use Rattle.writing.specs.Writing.{targetOf, placeOf, isAmong, freeOf, Outcome, outcome, madeAs, isMissing, isFull, blockOr0, putTable, putOf}
+use Rattle.writing.specs.Writing.{targetOf, placeOf, isAmong, freeOf, Outcome, outcome, madeAs, isMissing, isFull, blockOr0, putOf}
 use Rattle.writing.specs.ChangeLaws.{noted-value, bad-image, short-list, unsound, accepted}
 use Rattle.writing.specs.declared.Made.the-variants.{BadImage, ShortList, Unsound, Present, Full}
 

@@ -1,5 +1,4 @@
 -- The invariant: the best slot so far is the closest of the first s.
-use borrow.Author.Needs.{needs}
 use native.Mathlib.Omega.{arith}
 use Prim.Native.Nat.{_-_, _≤_}
 use mathlib.Core.Path.{_≡_, refl}

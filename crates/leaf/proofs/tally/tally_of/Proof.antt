@@ -1,5 +1,4 @@
 -- The invariant: the tally tells of the first s slots, whose fingerprints bear the number.
-use borrow.Author.Needs.{needs}
 use native.Mathlib.Omega.{arith}
 use Prim.Native.Nat.{_-_, _≤_}
 use mathlib.Core.Path.{_≡_, refl, _∙_}

@@ -2,7 +2,6 @@ use borrow.Author.Needs.{needs}
 use native.Mathlib.Omega.{arith}
 use mathlib.Core.Path.{sym, ap, ap₂, _∙_}
 use denote.Ref.{now}
-use Prim.Native.Nat.{ℕ}
 use Rattle.leaf.specs.declared.search.Slot.{Slot}
 use Rattle.lists.specs.Lists.{setList}
 use Rattle.writing.specs.Writing.{madeAs}

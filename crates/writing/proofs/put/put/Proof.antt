@@ -11,7 +11,7 @@ use Rattle.image.specs.Image.{blocks, leaves}
 use Rattle.survey.specs.Walk.{State}
 use Rattle.index.specs.SoundTest.{long-enough, noted-bounds, block-inside}
 use Rattle.lists.specs.Lists.{headIn}
-use Rattle.writing.specs.Writing.{targetOf, Outcome}
+use Rattle.writing.specs.Writing.{Outcome}
 use Rattle.writing.specs.ChangeLaws.{noted-target}
 use Rattle.writing.specs.PutLaws.{noted-free, target-right, target-met, putBy, put-bad, put-short, put-unsound, put-judged}
 use Rattle.writing.proofs.put.put.Statement.{statement}
