@@ -1,6 +1,6 @@
 -- The header of a leaf as one number of 128 bits: word 0, and word 1 above it.
 use mathlib.Core.Bool.{Bool}
-use mathlib.Core.List.{List}
+use mathlib.Core.List.{List, [], _∷_}
 use Prim.Native.Nat.{ℕ, zero, suc, _+_, _-_, _*_, _/_, _%_, _^_}
 use lib.Dec.{eqb}
 use lib.Bits.{bitXor}
@@ -39,6 +39,10 @@ marked n s f = patched (patched n s 1 1) (16 + 8 * s) 8 f
 
 unfoldable pub cleared : ℕ → ℕ → ℕ
 cleared n s = patched n s 1 0
+
+abbrev pub clearedAll : ℕ → List ℕ → ℕ
+clearedAll n [] = n
+clearedAll n (s ∷ ss) = clearedAll (cleared n s) ss
 
 -- "alt flipped"
 unfoldable pub flipped : ℕ → ℕ

@@ -9,8 +9,8 @@ use native.Mathlib.Omega.{arith}
 use Rattle.words.specs.Update.{upd-other}
 use Rattle.leaf.specs.Leaf.{Leaf, Taken, In, Right}
 use Rattle.leaf.specs.Search.{count}
-use Rattle.image.specs.Chain.{All, Filled, Sound}
-use Rattle.image.specs.ChainLaws.{agree-map}
+use Rattle.image.specs.Chain.{All, Filled, Has, Sound}
+use Rattle.image.specs.ChainLaws.{Agree, agree-map}
 use Rattle.image.specs.Stretch.{Changed, above-left, below-right, part-good}
 use Rattle.image.specs.Target.{Target}
 use Rattle.image.specs.TargetLaws.{target-above}
@@ -21,7 +21,7 @@ use Rattle.image.specs.EditMaps.{Gives, Keeps, keeps-refl, gives-keeps, 
 use Rattle.image.specs.EditMaps.{set-gives}
 use Rattle.image.specs.EditMaps.{moves, Fits, moves-keeps}
 use Rattle.image.specs.Copies.{Copy}
-use Rattle.image.specs.Parting.{Parts, halves-plain, halves-new, halves-slots}
+use Rattle.image.specs.Parting.{Parts, Halves, halves-plain, halves-new, halves-slots}
 use Rattle.image.specs.Changes.{one-leaf, unlink, split-leaf, agree-around}
 
 -- ---- one leaf
@@ -86,11 +86,11 @@ module _ (I J : ℕ → Leaf) (N : ℕ) (xs : List ℕ) (b : ℕ) (ys : List ℕ
           end
           fits
 
-      pub put-moved : Changed I J N (xs ++ (b ∷ ys)) (xs ++ (b ∷ ys)) k (λ u. u ≡ v)
-      put-moved = put-kept (moves (insert (I b) s k v) cs) moved-keeps is
-
-      pub moved-count : count (J b) ≡ suc (count (I b))
-      moved-count = count-slots is ∙ moved-keeps .count ∙ count-insert (I b) s k v slot vacant
+      pub put-moved : Changed I J N (xs ++ (b ∷ ys)) (xs ++ (b ∷ ys)) k (λ u. u ≡ v) × (count (J b) ≡ suc (count (I b)))
+      put-moved = (
+        put-kept (moves (insert (I b) s k v) cs) moved-keeps is,
+        count-slots is ∙ moved-keeps .count ∙ count-insert (I b) s k v slot vacant,
+      )
 
 -- ---- a leaf taken out
 
@@ -107,37 +107,47 @@ del-unlink I J N xs p b ys S others s h one =
 
 -- ---- the split
 
-module _ (I J : ℕ → Leaf) (N : ℕ) (xs : List ℕ) (b c : ℕ) (ys : List ℕ) (S : Sound I N (xs ++ (b ∷ ys)))
-    (fresh : All (λ x. x ≢ c) (xs ++ (b ∷ ys))) (others : (x : ℕ) → x ≢ b → x ≢ c → Same (I x) (J x)) (L M : Leaf) (j : ℕ)
-    (p : Parts (I b) L M j) (old : Slots L (J b)) where
-  module _ (inside : c < N) (some : 0 < j) (more : j < count (I b)) (lock-b : J b .lock ≡ false) (next-b : J b .next ≡ c)
-      (lock-c : J c .lock ≡ false) (next-c : J c .next ≡ I b .next) where
-    -- the map stays: at any key of the leaf
-    pub split-sound : (k v : ℕ) → In (I b) k v → Slots M (J c)
-        → Changed I J N (xs ++ (b ∷ ys)) (xs ++ (b ∷ c ∷ ys)) k (In (I b) k)
-    split-sound k v i e =
-        split-leaf I J N xs b c ys S fresh others k (In (I b) k) inside
-        (halves-slots (halves-plain (I b) L M j p some more k) old e)
-        lock-b
-        next-b
-        lock-c
-        next-c
-        (above-left I N xs (b ∷ []) ys S k v (inl i))
-        (below-right I N xs (b ∷ []) ys S k v (inl i))
+-- of the entries of the chain's leaf b those of L stay, and the j of M go to block c, which is outside the chain
+pub record Divided (I J : ℕ → Leaf) (N : ℕ) (xs : List ℕ) (b c : ℕ) (ys : List ℕ) (L M : Leaf) (j : ℕ) : Type 0 where
+  pub sound : Sound I N (xs ++ (b ∷ ys))
+  pub fresh : All (λ x. x ≢ c) (xs ++ (b ∷ ys))
+  pub others : (x : ℕ) → x ≢ b → x ≢ c → Same (I x) (J x)
+  pub parts : Parts (I b) L M j
+  pub old : Slots L (J b)
+  pub inside : c < N
+  pub some : 0 < j
+  pub more : j < count (I b)
+  pub lock-b : J b .lock ≡ false
+  pub next-b : J b .next ≡ c
+  pub lock-c : J c .lock ≡ false
+  pub next-c : J c .next ≡ I b .next
 
-    -- the new entry in slot q of the new leaf
-    pub split-put : (k v : ℕ) → Target I b ys k → Absent (I b) k → (i u : ℕ) → In M i u → i < k → (q : ℕ) → q < M .size
-        → M .occ q ≡ false → Slots (insert M q k v) (J c)
-        → Changed I J N (xs ++ (b ∷ ys)) (xs ++ (b ∷ c ∷ ys)) k (λ w. w ≡ v)
-    split-put k v t absent i u m l q slot free e =
-        split-leaf I J N xs b c ys S fresh others k (λ w. w ≡ v) inside
-        (halves-slots (halves-new (I b) L M j p some more k v i u q slot free absent m l) old e)
-        lock-b
-        next-b
-        lock-c
-        next-c
-        (target-above I N xs b ys S k t)
-        (t .high)
+module _ {I J : ℕ → Leaf} {N : ℕ} {xs : List ℕ} {b c : ℕ} {ys : List ℕ} {L M : Leaf} {j : ℕ}
+    (D : Divided I J N xs b c ys L M j) where
+  -- by the two halves that come of it
+  by-halves : (k : ℕ) (P : ℕ → Type 0) → Halves (I b) (J b) (J c) k P → ((i u : ℕ) → Has I xs i u → i < k)
+      → ((i u : ℕ) → Has I ys i u → k < i) → Changed I J N (xs ++ (b ∷ ys)) (xs ++ (b ∷ c ∷ ys)) k P
+  by-halves k P h =
+      split-leaf I J N xs b c ys (D .sound) (D .fresh) (D .others) k P (D .inside) h (D .lock-b) (D .next-b) (D .lock-c)
+      (D .next-c)
+
+  -- the map stays: at any key of the leaf
+  pub split-sound : (k v : ℕ) → In (I b) k v → Slots M (J c)
+      → Changed I J N (xs ++ (b ∷ ys)) (xs ++ (b ∷ c ∷ ys)) k (In (I b) k)
+  split-sound k v i e =
+      by-halves k (In (I b) k) (halves-slots (halves-plain (I b) L M j (D .parts) (D .some) (D .more) k) (D .old) e)
+      (above-left I N xs (b ∷ []) ys (D .sound) k v (inl i))
+      (below-right I N xs (b ∷ []) ys (D .sound) k v (inl i))
+
+  -- the new entry in slot q of the new leaf
+  pub split-put : (k v : ℕ) → Target I b ys k → Absent (I b) k → (i u : ℕ) → In M i u → i < k → (q : ℕ) → q < M .size
+      → M .occ q ≡ false → Slots (insert M q k v) (J c)
+      → Changed I J N (xs ++ (b ∷ ys)) (xs ++ (b ∷ c ∷ ys)) k (λ w. w ≡ v)
+  split-put k v t absent i u m l q slot free e =
+      by-halves k (λ w. w ≡ v)
+      (halves-slots (halves-new (I b) L M j (D .parts) (D .some) (D .more) k v i u q slot free absent m l) (D .old) e)
+      (target-above I N xs b ys (D .sound) k t)
+      (t .high)
 
   -- a key below all that went: its target stays
   module _ (new : Slots M (J c)) (k : ℕ) (stays : (i u : ℕ) → In M i u → k < i) where
@@ -145,13 +155,16 @@ module _ (I J : ℕ → Leaf) (N : ℕ) (xs : List ℕ) (b c : ℕ) (ys : List �
     split-target t = record {
       low = elim (t .low) [
         | inl e ↦ inl e
-        | inr r ↦ elim (p .map .back (r .0) (r .1) (r .2)) [
-          | inl a ↦ inr (r .0, r .1, slots-in old (r .0) (r .1) a, r .3)
+        | inr r ↦ elim (D .parts .map .back (r .0) (r .1) (r .2)) [
+          | inl a ↦ inr (r .0, r .1, slots-in (D .old) (r .0) (r .1) a, r .3)
           | inr a ↦ absurd (omega (arith, stays (r .0) (r .1) a, r .3))
         ]
       ];
       high = λ i u h. elim h [
         | inl a ↦ stays i u (slots-in (slots-sym new) i u a)
-        | inr a ↦ t .high i u ((agree-map I J ys ((agree-around I J N xs b c ys S fresh others) .1)) .to i u a)
+        | inr a ↦ t .high i u ((agree-map I J ys (around .1)) .to i u a)
       ];
     }
+      where
+        around : Agree xs I J × Agree ys I J
+        around = agree-around I J N xs b c ys (D .sound) (D .fresh) (D .others)

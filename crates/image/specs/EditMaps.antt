@@ -162,10 +162,6 @@ moves-keeps occ (c ∷ cs) L i t e r h o a b f =
         move-keeps L r (c .from) (h (c .from) (f .0) (f .1)) (c .to) (omega (arith, f .3)) (o (c .to) (f .2) (f .3) ∙ f .4)
 
 -- the lock and the active sibling stay
-pub moves-lock : (cs : List Copy) (L : Leaf) → (moves L cs) .lock ≡ L .lock
-moves-lock [] L = refl
-moves-lock (c ∷ cs) L = moves-lock cs (move L (c .from) (c .to))
-
-pub moves-next : (cs : List Copy) (L : Leaf) → (moves L cs) .next ≡ L .next
-moves-next [] L = refl
-moves-next (c ∷ cs) L = moves-next cs (move L (c .from) (c .to))
+pub moves-rest : (cs : List Copy) (L : Leaf) → ((moves L cs) .lock ≡ L .lock) × ((moves L cs) .next ≡ L .next)
+moves-rest [] L = (refl, refl)
+moves-rest (c ∷ cs) L = moves-rest cs (move L (c .from) (c .to))

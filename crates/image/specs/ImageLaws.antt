@@ -10,6 +10,7 @@ use native.Mathlib.Omega.{arith}
 use borrow.Author.Tests.{eqb-false, ltb-false, eqb-true, ne-eqb, eq-eqb, le-ltb}
 use lib.Dec.{ltb, eqb}
 use lib.ListN.{replicate, length-replicate, getD-replicate, List·getD-eq-default, length}
+use Rattle.image.specs.PotentialLaws.{sum-agree}
 use Rattle.words.specs.Words.{wordAt, reads}
 use Rattle.words.specs.Bools.{differ}
 use Rattle.header.specs.Header.{fingerprintOf}
@@ -21,12 +22,12 @@ use Rattle.image.specs.Chain.{All, Links, Has, Sound}
 use Rattle.steps.specs.Refusals.{badImage}
 use Rattle.image.specs.Image.{blocks, leaves, SoundImage, Blank, AlikeLeaf, Alike}
 use Rattle.image.specs.Same.{Same}
-use Rattle.image.specs.ChainLaws.{all-map, Good, sound-good, good-sound, Agree}
+use Rattle.image.specs.ChainLaws.{Good, sound-good, good-sound, Agree}
 use Rattle.image.specs.Parting.{emptyLeaf}
 use Rattle.image.specs.Stored.{read-zero}
 use Rattle.image.specs.ListLaws.{lists-unique}
 use Rattle.image.specs.Entries.{listOf, chain-lists}
-use Rattle.image.specs.Potential.{sumOf, excess}
+use Rattle.image.specs.Potential.{sumOf, excess, phi}
 
 -- ---- the size of an image that is not refused for it
 
@@ -173,20 +174,5 @@ module _ (l m : List ℕ) where
       e : blocks m ≡ blocks l
       e = ap (λ (n : ℕ). n / 256) (a .long)
 
-  pub alike-sym : Alike l m → Alike m l
-  alike-sym a = record {
-    long = sym (a .long);
-    chain = a .chain;
-    first = a .second;
-    second = a .first;
-    slots =
-        all-map (λ b. AlikeLeaf (leaves l b) (leaves m b)) (λ b. AlikeLeaf (leaves m b) (leaves l b)) turn (a .chain)
-        (a .slots);
-  }
-    where
-      turn : (b : ℕ) → AlikeLeaf (leaves l b) (leaves m b) → AlikeLeaf (leaves m b) (leaves l b)
-      turn b s = record {
-        occ = λ s′. sym (s .occ s′);
-        key = λ s′ t. sym (s .key s′ (sym (s .occ s′) ∙ t));
-        val = λ s′ t. sym (s .val s′ (sym (s .occ s′) ∙ t));
-      }
+  pub alike-phi : (a : Alike l m) → phi (leaves m) (a .chain) ≡ phi (leaves l) (a .chain)
+  alike-phi a = sum-agree (excess 6 7) (leaves l) (leaves m) (a .chain) (alike-agree a)

@@ -138,14 +138,14 @@ thin-taken (s ∷ ss) L t h =
     let q : Taken L t × (t ≢ s) = erase-taken L s t (r .0) in
     (q .0, (λ e. q .1 (sym e), r .1))
 
-thin-key : (ss : List ℕ) (L : Leaf) → (thin L ss) .key ≡ L .key
-thin-key [] L = refl
-thin-key (s ∷ ss) L = thin-key ss (erase L s)
+pub thin-rest : (ss : List ℕ) (L : Leaf) → ((thin L ss) .lock ≡ L .lock) × ((thin L ss) .key ≡ L .key)
+thin-rest [] L = (refl, refl)
+thin-rest (s ∷ ss) L = thin-rest ss (erase L s)
 
 thin-low : (L : Leaf) (lo : ℕ) (ss : List ℕ) → Upper L lo ss → (k v : ℕ) → In (thin L ss) k v → k < lo
 thin-low L lo ss u k v i =
     let r : Taken L (i .at) × All (λ s. s ≢ i .at) ss = thin-taken ss L (i .at) (i .taken) in
-    let e : L .key (i .at) ≡ k = ap (λ (f : ℕ → ℕ). f (i .at)) (sym (thin-key ss L)) ∙ i .key-is in
+    let e : L .key (i .at) ≡ k = ap (λ (f : ℕ → ℕ). f (i .at)) (sym (thin-rest ss L .1)) ∙ i .key-is in
     elim (decLt k lo) [ yes l ↦ l | no l ↦ absurd (u .all (i .at) (r .0) (omega arith) (r .1)) ]
 
 gather-high : (key val : ℕ → ℕ) (lo : ℕ) (ss : List ℕ) (M : Leaf) (t : ℕ) → All (λ s. lo ≤ key s) ss
@@ -287,10 +287,6 @@ parts-count B L M L′ j p s = omega (arith, count-slots s, p .old)
 
 -- ---- what the edits leave of the rest of a leaf
 
-pub thin-lock : (ss : List ℕ) (L : Leaf) → (thin L ss) .lock ≡ L .lock
-thin-lock [] L = refl
-thin-lock (s ∷ ss) L = thin-lock ss (erase L s)
-
 pub gather-vacant : (key val : ℕ → ℕ) (ss : List ℕ) (M : Leaf) (t q : ℕ) → q < t
     → (gather key val M t ss) .occ q ≡ M .occ q
 gather-vacant key val [] M t q l = refl
@@ -298,14 +294,7 @@ gather-vacant key val (s ∷ ss) M t q l =
     gather-vacant key val ss (insert M t (key s) (val s)) (suc t) q (omega arith)
     ∙ upd-other (M .occ) t true q (omega arith)
 
-pub gather-size : (key val : ℕ → ℕ) (ss : List ℕ) (M : Leaf) (t : ℕ) → (gather key val M t ss) .size ≡ M .size
-gather-size key val [] M t = refl
-gather-size key val (s ∷ ss) M t = gather-size key val ss (insert M t (key s) (val s)) (suc t)
-
-pub gather-lock : (key val : ℕ → ℕ) (ss : List ℕ) (M : Leaf) (t : ℕ) → (gather key val M t ss) .lock ≡ M .lock
-gather-lock key val [] M t = refl
-gather-lock key val (s ∷ ss) M t = gather-lock key val ss (insert M t (key s) (val s)) (suc t)
-
-pub gather-next : (key val : ℕ → ℕ) (ss : List ℕ) (M : Leaf) (t : ℕ) → (gather key val M t ss) .next ≡ M .next
-gather-next key val [] M t = refl
-gather-next key val (s ∷ ss) M t = gather-next key val ss (insert M t (key s) (val s)) (suc t)
+pub gather-rest : (key val : ℕ → ℕ) (ss : List ℕ) (M : Leaf) (t : ℕ) → let L = gather key val M t ss in
+    (L .size ≡ M .size) × (L .lock ≡ M .lock) × (L .next ≡ M .next)
+gather-rest key val [] M t = (refl, refl, refl)
+gather-rest key val (s ∷ ss) M t = gather-rest key val ss (insert M t (key s) (val s)) (suc t)

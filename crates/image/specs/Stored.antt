@@ -12,7 +12,7 @@ use lib.Dec.{eqb}
 use lib.ListN.{length}
 use Rattle.words.specs.Update.{upd, upd-same, upd-other}
 use Rattle.header.specs.Fields.{field}
-use Rattle.header.specs.Header.{isOccupied, isLocked, altIn, fingerprintIn, marked, cleared, flipped, fingerprintOf}
+use Rattle.header.specs.Header.{isOccupied, isLocked, altIn, fingerprintIn, marked, cleared, flipped, fingerprintOf, clearedAll}
 use Rattle.header.specs.HeaderLaws.{fingerprint-lt, occupied-marked, occupied-marked-other, locked-marked, alt-marked}
 use Rattle.header.specs.HeaderLaws.{fingerprint-marked, fingerprint-marked-other, occupied-cleared}
 use Rattle.header.specs.HeaderLaws.{occupied-cleared-other}
@@ -67,11 +67,6 @@ moveS R s t = insertS (eraseS R s) t (R .key s) (R .val s)
 abbrev pub movesS : Stored → List Copy → Stored
 movesS R [] = R
 movesS R (c ∷ cs) = movesS (moveS R (c .from) (c .to)) cs
-
--- the bits of the slots ss cleared
-abbrev pub clearAll : ℕ → List ℕ → ℕ
-clearAll h [] = h
-clearAll h (s ∷ ss) = clearAll (cleared h s) ss
 
 abbrev pub gatherS : (ℕ → ℕ) → (ℕ → ℕ) → Stored → ℕ → List ℕ → Stored
 gatherS key val R t [] = R
@@ -175,11 +170,11 @@ read-flip R = λ i. record {
 }
 
 pub read-thin : (ss : List ℕ) (R : Stored) → All (λ s. s < 14) ss
-    → readOf (withHead R (clearAll (R .head) ss)) ≡ thin (readOf R) ss
+    → readOf (withHead R (clearedAll (R .head) ss)) ≡ thin (readOf R) ss
 read-thin [] R a = refl
 read-thin (s ∷ ss) R a = read-thin ss (eraseS R s) (a .1) ∙ ap (λ (L : Leaf). thin L ss) (read-erase R s (a .0))
 
-pub alt-clear-all : (ss : List ℕ) (h : ℕ) → All (λ s. s < 14) ss → altIn (clearAll h ss) ≡ altIn h
+pub alt-clear-all : (ss : List ℕ) (h : ℕ) → All (λ s. s < 14) ss → altIn (clearedAll h ss) ≡ altIn h
 alt-clear-all [] h a = refl
 alt-clear-all (s ∷ ss) h a = alt-clear-all ss (cleared h s) (a .1) ∙ alt-cleared h s (a .0)
 

@@ -22,9 +22,9 @@ use Rattle.image.specs.Kept.{Unused, of-prints}
 use Rattle.image.specs.KeptLaws.{print-low}
 use Rattle.image.specs.Same.{slots-eq}
 use Rattle.image.specs.Edits.{insert, Absent}
-use Rattle.image.specs.EditMaps.{moves, Fits, moves-lock, moves-next}
+use Rattle.image.specs.EditMaps.{moves, Fits, moves-rest}
 use Rattle.image.specs.Stretch.{Changed}
-use Rattle.image.specs.Calls.{put-moved, moved-count}
+use Rattle.image.specs.Calls.{put-moved}
 use Rattle.image.specs.Stored.{Stored, storedOf, readOf, withHead, withEntry, insertS, movesS, read-insert}
 use Rattle.image.specs.Stored.{read-moves}
 use Rattle.image.specs.Blocks.{Only, only-refl, only-store, only-view, only-others, putEntry, putHead}
@@ -202,13 +202,13 @@ module _ {w : ℕ → ℕ} {N : ℕ} {xs : List ℕ} {b : ℕ} {ys : List ℕ} {
         only-view moved-only
         ∙ leaf-moved (block w b) s k cs 14 low high (P .past) (P .slot) (omega arith) (P .fits) (P .head) v
 
-    pub moved-words : Changed (view w) (view (movedImage w b s k v cs low high)) N (xs ++ (b ∷ ys)) (xs ++ (b ∷ ys)) k
-        (λ u. u ≡ v)
+    moved : Changed (view w) (view (movedImage w b s k v cs low high)) N (xs ++ (b ∷ ys)) (xs ++ (b ∷ ys)) k (λ u. u ≡ v)
+        × (count (view (movedImage w b s k v cs low high) b) ≡ suc (count (view w b)))
     unfolding view
-    moved-words =
+    moved =
         put-moved (view w) (view (movedImage w b s k v cs low high)) N xs b ys (P .sound) (only-others moved-only)
-        (ap (λ (L : Leaf). L .lock) moved-view ∙ moves-lock cs (insert (view w b) s k v))
-        (ap (λ (L : Leaf). L .next) moved-view ∙ moves-next cs (insert (view w b) s k v))
+        (ap (λ (L : Leaf). L .lock) moved-view ∙ moves-rest cs (insert (view w b) s k v) .0)
+        (ap (λ (L : Leaf). L .next) moved-view ∙ moves-rest cs (insert (view w b) s k v) .1)
         k
         v
         (P .target)
@@ -224,23 +224,9 @@ module _ {w : ℕ → ℕ} {N : ℕ} {xs : List ℕ} {b : ℕ} {ys : List ℕ} {
         (P .fits)
         (slots-eq _ _ moved-view)
 
+    pub moved-words : Changed (view w) (view (movedImage w b s k v cs low high)) N (xs ++ (b ∷ ys)) (xs ++ (b ∷ ys)) k
+        (λ u. u ≡ v)
+    moved-words = moved .0
+
     pub moved-words-count : count (view (movedImage w b s k v cs low high) b) ≡ suc (count (view w b))
-    unfolding view
-    moved-words-count =
-        moved-count (view w) (view (movedImage w b s k v cs low high)) N xs b ys (P .sound) (only-others moved-only)
-        (ap (λ (L : Leaf). L .lock) moved-view ∙ moves-lock cs (insert (view w b) s k v))
-        (ap (λ (L : Leaf). L .next) moved-view ∙ moves-next cs (insert (view w b) s k v))
-        k
-        v
-        (P .target)
-        (P .absent)
-        s
-        (P .slot)
-        (P .vacant)
-        cs
-        14
-        (P .line)
-        (P .past)
-        (omega arith)
-        (P .fits)
-        (slots-eq _ _ moved-view)
+    moved-words-count = moved .1

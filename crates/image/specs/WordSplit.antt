@@ -11,7 +11,7 @@ use borrow.Author.Tests.{lt-ltb, le-ltb, eq-eqb, ne-eqb}
 use lib.Dec.{ltb, eqb}
 use lib.ListN.{length}
 use Rattle.words.specs.Update.{upd}
-use Rattle.header.specs.Header.{whole, isLocked, altIn, fingerprintIn, flipped}
+use Rattle.header.specs.Header.{whole, isLocked, altIn, fingerprintIn, flipped, clearedAll}
 use Rattle.header.specs.HeaderLaws.{alt-lt}
 use Rattle.leaf.specs.Leaf.{Leaf, Taken, In, occIn, headOf, leafOf, block, view}
 use Rattle.leaf.specs.LeafLaws.{occ-slot}
@@ -25,10 +25,10 @@ use Rattle.image.specs.Edits.{insert, Absent}
 use Rattle.image.specs.CountLaws.{count-slots, count-insert}
 use Rattle.image.specs.Order.{Upper}
 use Rattle.image.specs.Parting.{emptyLeaf, thin, gather, Parts, upper-parts, parts-absent, parts-count}
-use Rattle.image.specs.Parting.{thin-lock, gather-vacant}
-use Rattle.image.specs.Parting.{gather-size, gather-lock, gather-next, gathered, gathered-all}
-use Rattle.image.specs.Calls.{split-sound, split-put, split-target}
-use Rattle.image.specs.Stored.{Stored, storedOf, readOf, withHead, insertS, clearAll, gatherS, emptyS}
+use Rattle.image.specs.Parting.{thin-rest, gather-vacant}
+use Rattle.image.specs.Parting.{gather-rest, gathered, gathered-all}
+use Rattle.image.specs.Calls.{split-sound, split-put, split-target, Divided}
+use Rattle.image.specs.Stored.{Stored, storedOf, readOf, withHead, insertS, gatherS, emptyS}
 use Rattle.image.specs.Stored.{read-insert, read-thin}
 use Rattle.image.specs.Stored.{alt-clear-all, read-gather, read-empty}
 use Rattle.image.specs.Blocks.{view-slot, Only, only-refl, only-store, only-view, Relinked, leaf-switch}
@@ -150,7 +150,7 @@ pub record Splits (w : ℕ → ℕ) (N : ℕ) (xs : List ℕ) (b c : ℕ) (ys : 
   pub fits : t + length ss ≤ 14
   pub some : 0 < length ss
   pub more : length ss < count (view w b)
-  pub switch : whole low (block w b 1) ≡ flipped (clearAll (headOf (block w b)) ss)
+  pub switch : whole low (block w b 1) ≡ flipped (clearedAll (headOf (block w b)) ss)
 
 module _ {w : ℕ → ℕ} {N : ℕ} {xs : List ℕ} {b c : ℕ} {ys : List ℕ} {lo : ℕ} {ss : List ℕ} {t low : ℕ}
     (P : Splits w N xs b c ys lo ss t low) where
@@ -176,11 +176,9 @@ module _ {w : ℕ → ℕ} {N : ℕ} {xs : List ℕ} {b c : ℕ} {ys : List ℕ}
       read-gather (view w b .key) (view w b .val) ss (emptyS (view w b .next)) t (P .fits)
       ∙ ap (λ (L : Leaf). gather (view w b .key) (view w b .val) L t ss) (read-empty (view w b .next))
 
-  new-lock : movedLeaf w b t ss .lock ≡ false
-  new-lock = gather-lock (view w b .key) (view w b .val) ss (emptyLeaf 14 (view w b .next)) t
-
-  new-next : movedLeaf w b t ss .next ≡ view w b .next
-  new-next = gather-next (view w b .key) (view w b .val) ss (emptyLeaf 14 (view w b .next)) t
+  new-rest : (movedLeaf w b t ss .size ≡ 14) × (movedLeaf w b t ss .lock ≡ false)
+      × (movedLeaf w b t ss .next ≡ view w b .next)
+  new-rest = gather-rest (view w b .key) (view w b .val) ss (emptyLeaf 14 (view w b .next)) t
 
   -- whatever the new leaf R is
   module _ (R : Stored) (m : ℕ → ℕ) (placed : Placed w m c (wordOf R)) where
@@ -188,11 +186,30 @@ module _ {w : ℕ → ℕ} {N : ℕ} {xs : List ℕ} {b c : ℕ} {ys : List ℕ}
     unfolding view
     split-old-leaf =
         rw (← (read-thin ss (storedOf (block w b)) slots))
-        (split-old w m b c low R placed apart (clearAll (headOf (block w b)) ss) (P .switch)
+        (split-old w m b c low R placed apart (clearedAll (headOf (block w b)) ss) (P .switch)
         (alt-clear-all ss (headOf (block w b)) slots))
 
     old-lock : view (splitImage w m b c low) b .lock ≡ false
-    old-lock = split-old-leaf .lock ∙ thin-lock ss (view w b) ∙ good .unlocked
+    old-lock = split-old-leaf .lock ∙ thin-rest ss (view w b) .0 ∙ good .unlocked
+
+    -- the image is so divided, where the new leaf's lock and sibling are those of the moved one
+    divided : view (splitImage w m b c low) c .lock ≡ movedLeaf w b t ss .lock
+        → view (splitImage w m b c low) c .next ≡ movedLeaf w b t ss .next
+        → Divided (view w) (view (splitImage w m b c low)) N xs b c ys (oldLeaf w b ss) (movedLeaf w b t ss) (length ss)
+    divided lock next = record {
+      sound = P .sound;
+      fresh = P .fresh;
+      others = split-others w m b c low R placed apart;
+      parts = split-parts;
+      old = split-old-leaf .slots;
+      inside = P .inside;
+      some = P .some;
+      more = P .more;
+      lock-b = old-lock;
+      next-b = split-old-leaf .next;
+      lock-c = lock ∙ new-rest .1;
+      next-c = next ∙ new-rest .2;
+    }
 
     pub split-old-count : count (view (splitImage w m b c low) b) + length ss ≡ count (view w b)
     split-old-count =
@@ -206,30 +223,12 @@ module _ {w : ℕ → ℕ} {N : ℕ} {xs : List ℕ} {b c : ℕ} {ys : List ℕ}
     pub split-new-leaf : Same (movedLeaf w b t ss) (view (splitImage w m b c low) c)
     split-new-leaf = same-trans (same-eq _ _ new-is) (split-new w m b c low (newLeaf w b t ss) placed apart)
 
+    parted : Divided (view w) (view (splitImage w m b c low)) N xs b c ys (oldLeaf w b ss) (movedLeaf w b t ss) (length ss)
+    parted = divided (newLeaf w b t ss) m placed (split-new-leaf .lock) (split-new-leaf .next)
+
     pub split-words : (k v : ℕ) → In (view w b) k v
         → Changed (view w) (view (splitImage w m b c low)) N (xs ++ (b ∷ ys)) (xs ++ (b ∷ c ∷ ys)) k (In (view w b) k)
-    split-words k v i =
-        split-sound (view w) (view (splitImage w m b c low)) N xs b c ys (P .sound) (P .fresh)
-        (split-others w m b c low R placed apart)
-        (oldLeaf w b ss)
-        (movedLeaf w b t ss)
-        (length ss)
-        split-parts
-        (split-old-leaf R m placed .slots)
-        (P .inside)
-        (P .some)
-        (P .more)
-        (old-lock R m placed)
-        (split-old-leaf R m placed .next)
-        (split-new-leaf .lock ∙ new-lock)
-        (split-new-leaf .next ∙ new-next)
-        k
-        v
-        i
-        (split-new-leaf .slots)
-      where
-        R : Stored
-        R = newLeaf w b t ss
+    split-words k v i = split-sound parted k v i (split-new-leaf .slots)
 
     pub split-new-count : count (view (splitImage w m b c low) c) ≡ length ss
     split-new-count = count-slots (split-new-leaf .slots) ∙ split-parts .new
@@ -238,22 +237,11 @@ module _ {w : ℕ → ℕ} {N : ℕ} {xs : List ℕ} {b c : ℕ} {ys : List ℕ}
     pub split-room : (k : ℕ) → k < lo → Target (view w) b ys k → Absent (view w b) k
         → Target (view (splitImage w m b c low)) b (c ∷ ys) k × Absent (view (splitImage w m b c low) b) k
     split-room k l target absent = (
-      split-target (view w) (view (splitImage w m b c low)) N xs b c ys (P .sound) (P .fresh)
-          (split-others w m b c low R placed apart)
-          (oldLeaf w b ss)
-          (movedLeaf w b t ss)
-          (length ss)
-          split-parts
-          (split-old-leaf R m placed .slots)
-          (split-new-leaf .slots)
-          k
+      split-target parted (split-new-leaf .slots) k
           (λ i u g. omega (arith, gathered (view w b) (good .right) lo ss (P .upper) 14 (view w b .next) t (P .fits) i u g))
           target,
-      parts-absent split-parts (split-old-leaf R m placed .slots) k absent,
+      parts-absent split-parts (parted .old) k absent,
     )
-      where
-        R : Stored
-        R = newLeaf w b t ss
 
   -- ---- the new entry is in slot q of the new leaf
 
@@ -267,7 +255,7 @@ module _ {w : ℕ → ℕ} {N : ℕ} {xs : List ℕ} {b c : ℕ} {ys : List ℕ}
         (split-new w m b c low (insertS (newLeaf w b t ss) q k v) placed apart)
 
     room : q < movedLeaf w b t ss .size
-    room = rw (gather-size (view w b .key) (view w b .val) ss (emptyLeaf 14 (view w b .next)) t) (omega arith)
+    room = rw (new-rest .0) (omega arith)
 
     free : movedLeaf w b t ss .occ q ≡ false
     free = gather-vacant (view w b .key) (view w b .val) ss (emptyLeaf 14 (view w b .next)) t q slot
@@ -275,35 +263,10 @@ module _ {w : ℕ → ℕ} {N : ℕ} {xs : List ℕ} {b c : ℕ} {ys : List ℕ}
     pub split-put-words : (i u : ℕ) → In (movedLeaf w b t ss) i u → i < k
         → Changed (view w) (view (splitImage w m b c low)) N (xs ++ (b ∷ ys)) (xs ++ (b ∷ c ∷ ys)) k (λ z. z ≡ v)
     split-put-words i u g l =
-        split-put (view w) (view (splitImage w m b c low)) N xs b c ys (P .sound) (P .fresh)
-        (split-others w m b c low R placed apart)
-        (oldLeaf w b ss)
-        (movedLeaf w b t ss)
-        (length ss)
-        split-parts
-        (split-old-leaf R m placed .slots)
-        (P .inside)
-        (P .some)
-        (P .more)
-        (old-lock R m placed)
-        (split-old-leaf R m placed .next)
-        (put-new .lock ∙ new-lock)
-        (put-new .next ∙ new-next)
-        k
-        v
-        target
-        absent
-        i
-        u
-        g
-        l
-        q
+        split-put (divided (insertS (newLeaf w b t ss) q k v) m placed (put-new .lock) (put-new .next)) k v target absent i u g l q
         room
         free
         (put-new .slots)
-      where
-        R : Stored
-        R = insertS (newLeaf w b t ss) q k v
 
     pub split-put-count : count (view (splitImage w m b c low) c) ≡ length ss + 1
     split-put-count =

@@ -3,9 +3,8 @@ use mathlib.Core.Path.{_≡_, refl, ap, _∙_}
 use mathlib.Core.Bool.{false}
 use mathlib.Core.List.{List, [], _∷_, map}
 use mathlib.Core.Logic.{inl}
-use Prim.Native.Nat.{ℕ, _*_, _≤_, _<_, min}
-use native.Mathlib.Omega.{arith}
-use lib.ListN.{length, take, replicate, length-replicate}
+use Prim.Native.Nat.{ℕ, _<_, min}
+use lib.ListN.{length, take}
 use lib.Seq.{take-nil}
 use Rattle.leaf.specs.Search.{leastFrom, keyOr0, smallestOf}
 use Rattle.leaf.specs.SearchLaws.{least-at}
@@ -16,20 +15,11 @@ use Rattle.image.specs.Map.{Entry, lookup, only, startingAt}
 use Rattle.image.specs.Same.{own}
 use Rattle.image.specs.Entries.{listOf}
 use Rattle.image.specs.Image.{blocks, leaves, Blank}
-use Rattle.image.specs.ImageLaws.{good-length, length-good, blank-sound, blank-image, blank-empty, blank-list}
+use Rattle.image.specs.ImageLaws.{good-length, blank-sound, blank-image, blank-empty, blank-list}
 use Rattle.index.specs.Reading.{chainOf, entriesIn, told, findOf, over, counted, listingIs, listed, listingOf}
 use Rattle.index.specs.Reading.{sizes, recoveryIs, isShort, recoveryOf}
 use Rattle.index.specs.SoundTest.{sound-chain}
 use Rattle.index.specs.Agreement.{foundIn, find-accepted, listing-accepted, recovery-accepted}
-
--- the blank image of N blocks
-abbrev pub zeros : ℕ → List ℕ
-zeros N = replicate (256 * N) 0
-
-pub zeros-fine : (N : ℕ) → 0 < N → N ≤ 256 → badImage (length (zeros N)) ≡ false
-zeros-fine N some most =
-    let e : length (zeros N) ≡ 256 * N = length-replicate (256 * N) 0 in
-    length-good (zeros N) (record { whole = omega arith; some = omega arith; most = omega arith })
 
 module _ (l : List ℕ) (z : Blank l) (fine : badImage (length l) ≡ false) where
   pos : 0 < blocks l

@@ -10,7 +10,7 @@ use mathlib.Core.Logic.{_⊎_, inl, inr}
 use lib.ListN.{length, set, List·getD-eq-default, length-set}
 use lib.Seq.{getD-set-same, getD-set-other}
 use borrow.Author.Tests.{lt-ltb}
-use Rattle.words.specs.Words.{byteOf, bytesOf, stores, storeAt, reads}
+use Rattle.words.specs.Words.{byteOf, bytesOf, stores, storeAt, reads, storeWord}
 use Rattle.words.specs.WordLaws.{Bytes, word-small, length-store, reads-store}
 use Rattle.words.specs.Update.{upd}
 use Rattle.steps.specs.declared.Step.{Step}
@@ -26,10 +26,6 @@ use Rattle.image.specs.Image.{blocks, leaves}
 use Rattle.image.specs.Potential.{phi}
 use Rattle.image.specs.Entries.{listOf}
 use Rattle.lists.specs.Served.{perCut, Proper, Small, Left, spent, Served}
-
--- a word stored in an image of bytes, at its place in words
-abbrev pub storeWord : List ℕ → ℕ → ℕ → List ℕ
-storeWord m p v = storeAt m (8 * p) v
 
 -- the image m is what a list left of the image l
 pub record LeftBytes (l m : List ℕ) (es : List Entry) (cost bound : ℕ) : Type 0 where

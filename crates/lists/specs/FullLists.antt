@@ -6,7 +6,7 @@ use mathlib.Core.List.{List, [], _∷_, _++_}
 use lib.Dec.{ltb}
 use lib.ListN.{drop, replicate}
 use Rattle.words.specs.Update.{upd}
-use Rattle.header.specs.Header.{altIn, marked, cleared, flipped, fingerprintOf}
+use Rattle.header.specs.Header.{altIn, marked, flipped, fingerprintOf, clearedAll}
 use Rattle.leaf.specs.Leaf.{Leaf, occIn, view}
 use Rattle.leaf.specs.Search.{lowestVacant}
 use Rattle.leaf.specs.declared.search.Slot.{Slot}
@@ -54,10 +54,6 @@ newWords up L ss k v =
     ∷ (replicate 12 0 ++ (cond up k 0 ∷ cond up v 0 ∷ (entryWords L ss ++ (L .next ∷ 0 ∷ []))))
 
 -- ".. with moved bits cleared and alt flipped"
-abbrev pub clearedAll : ℕ → List ℕ → ℕ
-clearedAll h [] = h
-clearedAll h (s ∷ ss) = clearedAll (cleared h s) ss
-
 abbrev pub switchedHead : (ℕ → ℕ) → ℕ → ℕ
 switchedHead w b = flipped (clearedAll (headIn w b) (movedSlots (view w b)))
 

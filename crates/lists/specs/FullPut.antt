@@ -10,7 +10,7 @@ use mathlib.Core.Logic.{_⊎_, inl, _≢_}
 use lib.ListN.{length, drop}
 use borrow.Author.Tests.{ltb-true, ltb-false}
 use Rattle.words.specs.Update.{upd}
-use Rattle.header.specs.Header.{whole, flipped}
+use Rattle.header.specs.Header.{whole, clearedAll}
 use Rattle.leaf.specs.Leaf.{Leaf, Taken, In, Right, block, view}
 use Rattle.leaf.specs.Search.{count}
 use Rattle.steps.specs.declared.Step.{Step}
@@ -32,7 +32,7 @@ use Rattle.image.specs.KeptLaws.{harmless-in, harmless-out}
 use Rattle.image.specs.Edits.{Absent}
 use Rattle.image.specs.Order.{slotsOf, Upper, upper-head, slots-top}
 use Rattle.image.specs.Blocks.{view-slot}
-use Rattle.image.specs.Stored.{Stored, clearAll}
+use Rattle.image.specs.Stored.{Stored}
 use Rattle.image.specs.Entries.{listOf}
 use Rattle.image.specs.Changes.{Stays, changed-stays}
 use Rattle.image.specs.Potential.{phi}
@@ -42,7 +42,7 @@ use Rattle.image.specs.WordSplit.{split-put-words}
 use Rattle.image.specs.WordSplit.{split-old-count, split-new-count, split-put-count, split-room}
 use Rattle.image.specs.Answers.{put-list, stays-list}
 use Rattle.lists.specs.Lists.{wordPlace, lowWord, headIn}
-use Rattle.lists.specs.FullLists.{movedSlots, firstKey, goesUp, newWords, linkWord, linkStore, clearedAll}
+use Rattle.lists.specs.FullLists.{movedSlots, firstKey, goesUp, newWords, linkWord, linkStore}
 use Rattle.lists.specs.FullLists.{switchedHead, splitStores, splitBacks, splitList}
 use Rattle.lists.specs.Served.{perPut, Small, Proper, Served}
 use Rattle.lists.specs.Headers.{low-small, under-low, under-all, under-flipped}
@@ -53,10 +53,6 @@ use Rattle.lists.specs.SetDel.{block-small, near-block}
 use Rattle.lists.specs.NewLeaf.{placed-stores, stores-each, newStored, new-word, new-small, Word}
 
 -- ---- the moved slots
-
-cleared-is : (ss : List ℕ) (h : ℕ) → clearedAll h ss ≡ clearAll h ss
-cleared-is [] h = refl
-cleared-is (s ∷ ss) h = cleared-is ss _
 
 -- the largest seven of a full leaf, from the smallest moved key on
 pub record Moved (L : Leaf) (ss : List ℕ) : Type 0 where
@@ -160,7 +156,7 @@ module _ (rule : Rule) (L : Lawful rule) (w : ℕ → ℕ) (small : Small w) (N 
     fits = omega (arith, half .seven);
     some = omega (arith, half .seven);
     more = omega (arith, half .seven);
-    switch = switched-whole w small b half ∙ ap flipped (cleared-is ss (headIn w b));
+    switch = switched-whole w small b half;
   }
 
   -- ---- its steps

@@ -12,7 +12,7 @@ use lib.Dec.{lit<, lit≤}
 use lib.ListN.{length}
 use Rattle.header.specs.Fields.{field, patched}
 use Rattle.header.specs.FieldLaws.{patched-lt}
-use Rattle.header.specs.Header.{whole, marked, cleared, flipped, fingerprintOf}
+use Rattle.header.specs.Header.{whole, marked, cleared, flipped, fingerprintOf, clearedAll}
 use Rattle.header.specs.HeaderLaws.{fingerprint-lt}
 use Rattle.header.specs.HeaderCode.{cleared-low, marked-low, flipped-low}
 use Rattle.leaf.specs.Leaf.{Leaf}
@@ -20,7 +20,7 @@ use Rattle.image.specs.Chain.{All}
 use Rattle.image.specs.Copies.{Copy}
 use Rattle.image.specs.EditMaps.{Fits}
 use Rattle.lists.specs.Lists.{lowWord, highWord, copiedHead}
-use Rattle.lists.specs.FullLists.{markedFrom, clearedAll}
+use Rattle.lists.specs.FullLists.{markedFrom}
 
 pub two-words : (n : ℕ) → whole (lowWord n) (highWord n) ≡ n
 two-words n = div-add-mod' n (2 ^ 64)

@@ -1,6 +1,6 @@
 -- The shape of the longer lists, `twoParts`: how long it is, what is counted in it, what it leaves, and that it is a
 -- section.
-use Prim.Native.Nat.{ℕ, suc, _+_}
+use Prim.Native.Nat.{ℕ, _+_}
 use native.Mathlib.Omega.{arith}
 use mathlib.Core.Bool.{Bool}
 use mathlib.Core.List.{List, [], _∷_, _++_}
@@ -9,42 +9,24 @@ use mathlib.Core.Logic.{_⊎_}
 use lib.ListN.{length, length-append}
 use Rattle.steps.specs.declared.Step.{Step}
 use Rattle.steps.specs.declared.Step.the-variants.{Store as store, WriteBack as writeBack, Fence as fence}
-use Rattle.steps.specs.Below.{one, countBelow}
+use Rattle.steps.specs.Below.{countBelow}
 use Rattle.steps.specs.Encoding.{stepsOf}
 use Rattle.steps.specs.Lists.{Each, Into, Still, each-append, count-append, runAll, run-all, run-all-append}
 use Rattle.steps.specs.Model.{line, run, Rule, isLineWrite, isWordWrite}
 use Rattle.steps.specs.Settling.{Lawful}
 use Rattle.steps.specs.Section.{Section}
-use Rattle.lists.specs.Served.{linesOf, wordsOf}
 use Rattle.steps.specs.Rules.{lines-in-lines}
 use Rattle.steps.specs.Shapes.{oneStore, twoParts, Backed, two-part-section}
+use Rattle.lists.specs.Served.{linesOf, wordsOf}
 
 -- ---- counting along a list
 
-abbrev counted : (Step → Bool) → List Step → ℕ
-counted f [] = 0
-counted f (x ∷ l) = one (f x) + counted f l
+-- how many of its steps pass a test: `linesOf` and `wordsOf` are so counted
+abbrev pub totalOf : (Step → Bool) → List Step → ℕ
+totalOf f l = countBelow (λ i. f (stepsOf l i)) (length l)
 
-module _ (f : Step → Bool) where
-  counted-is : (l : List Step) → countBelow (λ i. f (stepsOf l i)) (length l) ≡ counted f l
-  counted-is [] = refl
-  counted-is (x ∷ l) =
-      let e : 1 + length l ≡ suc (length l) = omega arith in
-      (rw e at (count-append f (x ∷ []) l)) ∙ omega (arith, counted-is l)
-
-  counted-append : (k l : List Step) → counted f (k ++ l) ≡ counted f k + counted f l
-  counted-append [] l = omega arith
-  counted-append (x ∷ k) l = omega (arith, counted-append k l)
-
-pub lines-append : (k l : List Step) → linesOf (k ++ l) ≡ linesOf k + linesOf l
-lines-append k l =
-    counted-is isLineWrite (k ++ l) ∙ counted-append isLineWrite k l
-    ∙ omega (arith, counted-is isLineWrite k, counted-is isLineWrite l)
-
-pub words-append : (k l : List Step) → wordsOf (k ++ l) ≡ wordsOf k + wordsOf l
-words-append k l =
-    counted-is isWordWrite (k ++ l) ∙ counted-append isWordWrite k l
-    ∙ omega (arith, counted-is isWordWrite k, counted-is isWordWrite l)
+pub total-append : (f : Step → Bool) (k l : List Step) → totalOf f (k ++ l) ≡ totalOf f k + totalOf f l
+total-append f k l = rw (length-append k l) (count-append f k l)
 
 -- a list of stores has no line writes
 abbrev pub IsStore : Step → Type 0
@@ -53,23 +35,17 @@ IsStore (writeBack k) = ⊥
 IsStore fence = ⊥
 
 pub stores-lines : (l : List Step) → Each IsStore l → linesOf l ≡ 0
-stores-lines l a = counted-is isLineWrite l ∙ none l a
-  where
-    none : (l : List Step) → Each IsStore l → counted isLineWrite l ≡ 0
-    none [] a = refl
-    none (store p v ∷ l) a = omega (arith, none l (a .1))
-    none (writeBack k ∷ l) a = absurd (a .0)
-    none (fence ∷ l) a = absurd (a .0)
+stores-lines [] a = refl
+stores-lines (store p v ∷ l) a = omega (arith, total-append isLineWrite (store p v ∷ []) l, stores-lines l (a .1))
+stores-lines (writeBack k ∷ l) a = absurd (a .0)
+stores-lines (fence ∷ l) a = absurd (a .0)
 
 -- .. and nothing but word writes
 pub stores-words : (l : List Step) → Each IsStore l → wordsOf l ≡ length l
-stores-words l a = counted-is isWordWrite l ∙ all l a
-  where
-    all : (l : List Step) → Each IsStore l → counted isWordWrite l ≡ length l
-    all [] a = refl
-    all (store p v ∷ l) a = omega (arith, all l (a .1))
-    all (writeBack k ∷ l) a = absurd (a .0)
-    all (fence ∷ l) a = absurd (a .0)
+stores-words [] a = refl
+stores-words (store p v ∷ l) a = omega (arith, total-append isWordWrite (store p v ∷ []) l, stores-words l (a .1))
+stores-words (writeBack k ∷ l) a = absurd (a .0)
+stores-words (fence ∷ l) a = absurd (a .0)
 
 -- ---- the stores s, their write-backs r, a fence, the stores t, and the switch
 
@@ -83,24 +59,15 @@ module _ (s r t : List Step) (p v : ℕ) where
         length-append t (oneStore p v),
       )
 
-  pub parts-lines : linesOf (twoParts s r t p v) ≡ linesOf s + linesOf r + linesOf t + 1
-  parts-lines =
+  pub parts-total : (f : Step → Bool)
+      → totalOf f (twoParts s r t p v) ≡ totalOf f s + totalOf f r + totalOf f (fence ∷ []) + totalOf f t + totalOf f (oneStore p v)
+  parts-total f =
       omega (
         arith,
-        lines-append s (r ++ fence ∷ (t ++ oneStore p v)),
-        lines-append r (fence ∷ (t ++ oneStore p v)),
-        lines-append (fence ∷ []) (t ++ oneStore p v),
-        lines-append t (oneStore p v),
-      )
-
-  pub parts-words : wordsOf (twoParts s r t p v) ≡ wordsOf s + wordsOf r + wordsOf t + 1
-  parts-words =
-      omega (
-        arith,
-        words-append s (r ++ fence ∷ (t ++ oneStore p v)),
-        words-append r (fence ∷ (t ++ oneStore p v)),
-        words-append (fence ∷ []) (t ++ oneStore p v),
-        words-append t (oneStore p v),
+        total-append f s (r ++ fence ∷ (t ++ oneStore p v)),
+        total-append f r (fence ∷ (t ++ oneStore p v)),
+        total-append f (fence ∷ []) (t ++ oneStore p v),
+        total-append f t (oneStore p v),
       )
 
   pub parts-each : (P : Step → Type 0) → Each P s → Each P r → P fence → Each P t → P (store p v) → P (writeBack (line p))

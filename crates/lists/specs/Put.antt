@@ -1,8 +1,8 @@
 -- Put, whatever its list is.
-use Prim.Native.Nat.{ℕ, zero, suc, _^_, _≤_, _<_}
+use Prim.Native.Nat.{ℕ, _^_, _≤_, _<_}
 use native.Mathlib.Omega.{arith}
 use native.Mathlib.Decide.{ℕ-discrete}
-use mathlib.Core.Bool.{Bool, true, false}
+use mathlib.Core.Bool.{false}
 use mathlib.Core.List.{List, [], _∷_, _++_, append-nil}
 use mathlib.Core.Path.{_≡_, refl, sym, _∙_, subst}
 use mathlib.Core.Logic.{_≢_}
@@ -10,8 +10,8 @@ use lib.ListN.{length}
 use Rattle.words.specs.Bools.{by-test}
 use Rattle.words.specs.Update.{upd, upd-same, upd-other}
 use Rattle.leaf.specs.Leaf.{occIn, view}
-use Rattle.leaf.specs.Search.{lowestVacant, countTo, count}
-use Rattle.leaf.specs.SearchLaws.{vacant-at, vacant-none}
+use Rattle.leaf.specs.Search.{lowestVacant, count}
+use Rattle.leaf.specs.SearchLaws.{vacant-at, vacant-none, count-all}
 use Rattle.leaf.specs.declared.search.Slot.the-variants.{At, Missing}
 use Rattle.steps.specs.declared.Step.{Step}
 use Rattle.steps.specs.declared.Step.the-variants.{Store as store, WriteBack as writeBack, Fence as fence}
@@ -33,11 +33,6 @@ use Rattle.lists.specs.PlainPut.{put-at-served}
 use Rattle.lists.specs.FullPut.{parted, split-run, up-served, split-served, put-room, PutRoom}
 
 -- ---- no slot is found
-
-count-all : (f : ℕ → Bool) (n : ℕ) → ((s : ℕ) → s < n → f s ≡ true) → countTo f n ≡ n
-unfolding countTo
-count-all f zero h = refl
-count-all f (suc n) h = rw (h n (omega arith)) (omega (arith, count-all f n (λ s l. h s (omega arith))))
 
 -- a leaf with no vacant slot is full
 pub none-vacant : (w : ℕ → ℕ) (b : ℕ) → lowestVacant (occIn (headIn w b)) 14 ≡ Missing → count (view w b) ≡ 14

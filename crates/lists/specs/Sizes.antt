@@ -8,6 +8,7 @@ use mathlib.Core.List.{List, [], _∷_}
 use mathlib.Core.Path.{_≡_, refl, _∙_}
 use lib.ListN.{length, length-append, length-drop}
 use borrow.Author.Tests.{lt-ltb, le-ltb}
+use Rattle.steps.specs.Model.{isLineWrite, isWordWrite}
 use Rattle.words.specs.Bools.{by-test}
 use Rattle.leaf.specs.Leaf.{Leaf, occIn, view}
 use Rattle.leaf.specs.Search.{leastFrom, lowestVacant}
@@ -29,7 +30,7 @@ use Rattle.lists.specs.FullLists.{linkStore, splitList, putBelow, fullPu
 use Rattle.lists.specs.FullLists.{putList}
 use Rattle.steps.specs.Shapes.{twoParts}
 use Rattle.lists.specs.Served.{linesOf, wordsOf}
-use Rattle.lists.specs.Parts.{lines-append, IsStore, stores-lines, stores-words, parts-length, parts-lines, parts-words}
+use Rattle.lists.specs.Parts.{total-append, IsStore, stores-lines, stores-words, parts-length, parts-total}
 use Rattle.lists.specs.Beside.{beside-few}
 
 -- by the slot that is found
@@ -74,7 +75,7 @@ module _ (h : ℕ) (L : Leaf) (b s k v : ℕ) where
 
   lines-any : (q x p y : ℕ) → linesOf (twoParts (farStores h L b s k v) (farBacks b s) (store q x ∷ []) p y) ≡ 2
   lines-any q x p y =
-      parts-lines (farStores h L b s k v) (farBacks b s) (store q x ∷ []) p y
+      parts-total (farStores h L b s k v) (farBacks b s) (store q x ∷ []) p y isLineWrite
       ∙ omega (arith, stores-lines (farStores h L b s k v) (tt, (tt, copies-stores L b (copiesBeside h s))))
 
   words-any : (q x p y : ℕ)
@@ -85,7 +86,7 @@ module _ (h : ℕ) (L : Leaf) (b s k v : ℕ) where
         omega (
           arith,
           n,
-          parts-words f (farBacks b s) (store q x ∷ []) p y,
+          parts-total f (farBacks b s) (store q x ∷ []) p y isWordWrite,
           stores-words f (tt, (tt, copies-stores L b (copiesBeside h s))),
         ),
         omega (arith, n),
@@ -121,7 +122,7 @@ plain-size h L b k v =
 
 -- ---- the split
 
-entry-length : (L : Leaf) (ss : List ℕ) → length (entryWords L ss) ≡ 2 * length ss
+pub entry-length : (L : Leaf) (ss : List ℕ) → length (entryWords L ss) ≡ 2 * length ss
 entry-length L [] = refl
 entry-length L (s ∷ ss) = omega (arith, entry-length L ss)
 
@@ -172,7 +173,7 @@ module _ (w : ℕ → ℕ) (b c k v : ℕ) where
   pub split-lines : linesOf (splitList w b c k v) ≡ 6
   unfolding splitList
   split-lines =
-      parts-lines (splitStores w b c k v) (splitBacks b c) [] (wordPlace b 0) (lowWord (switchedHead w b))
+      parts-total (splitStores w b c k v) (splitBacks b c) [] (wordPlace b 0) (lowWord (switchedHead w b)) isLineWrite
       ∙ omega (
         arith,
         stores-lines (splitStores w b c k v) split-stores,
@@ -185,7 +186,7 @@ module _ (w : ℕ → ℕ) (b c k v : ℕ) where
       omega (
         arith,
         parts-length (splitStores w b c k v) (splitBacks b c) [] (wordPlace b 0) (lowWord (switchedHead w b)),
-        parts-words (splitStores w b c k v) (splitBacks b c) [] (wordPlace b 0) (lowWord (switchedHead w b)),
+        parts-total (splitStores w b c k v) (splitBacks b c) [] (wordPlace b 0) (lowWord (switchedHead w b)) isWordWrite,
         stores-words (splitStores w b c k v) split-stores,
       )
 
@@ -199,7 +200,7 @@ module _ (w : ℕ → ℕ) (b c k v : ℕ) where
   full-size =
       let r = putBelow (goesUp (view w b) k) w b c k v in (
         omega (arith, length-append (splitList w b c k v) r, split-length, moved-few w b, below-size (goesUp (view w b) k) .0),
-        omega (arith, lines-append (splitList w b c k v) r, split-lines, below-size (goesUp (view w b) k) .1),
+        omega (arith, total-append isLineWrite (splitList w b c k v) r, split-lines, below-size (goesUp (view w b) k) .1),
       )
 
   pub put-size : (length (putList w b c k v) ≤ 56) × (linesOf (putList w b c k v) ≤ 8)

@@ -1,33 +1,29 @@
 -- What follows from the contracts of run and cut, for the crates above: that they allow one result, which calls are
 -- accepted, what those leave in words, and that a list that was written step by step passes.
-use Prim.Native.Nat.{ℕ, _+_, _*_, _/_, _%_, _^_, _<_, _≤_}
+use Prim.Native.Nat.{ℕ, _*_, _/_, _%_, _<_, _≤_}
 use native.Mathlib.Omega.{arith}
 use native.Mathlib.Decide.{decLt}
 use mathlib.Core.Bool.{true, false, not, cond}
 use mathlib.Core.List.{List}
-use mathlib.Core.Path.{_≡_, refl, ap, _∙_}
-use lib.ListN.{length, getD, List·getD-eq-default}
+use mathlib.Core.Path.{_≡_, refl}
+use lib.ListN.{length, List·getD-eq-default}
 use lib.Dec.{ltb, eqb}
 use borrow.Author.Tests.{ltb-false, le-ltb, eqb-true, eq-eqb, not-false}
-use Rattle.words.specs.Words.{reads}
-use Rattle.words.specs.Update.{upd}
-use Rattle.words.specs.WordLaws.{length-store, reads-store}
+use Rattle.words.specs.Words.{storeWord}
 use Rattle.steps.specs.Below.{anyBelow}
 use Rattle.steps.specs.BelowLaws.{or-false, any-none, none-make, count-nth}
 use Rattle.steps.specs.Model.{line, storesTo, made, run, cut, rule01, settled, Permitted}
 use Rattle.steps.specs.declared.Step.{Step}
-use Rattle.steps.specs.declared.Step.the-variants.{Store as store}
-use Rattle.steps.specs.Settling.{EachStore, is-store, settled-made}
-use Rattle.steps.specs.Views.{cut-view, run-view}
-use Rattle.steps.specs.Encoding.{second, inImage, stepAt, written}
-use Rattle.steps.specs.EncodingLaws.{pair-of, written-formed, written-length}
+use Rattle.steps.specs.Settling.{is-store, settled-made}
+use Rattle.steps.specs.Encoding.{inImage, stepAt, written}
+use Rattle.steps.specs.EncodingLaws.{written-formed, written-length}
 use Rattle.steps.specs.Lists.{Each}
 use Rattle.steps.specs.Refusals.{row-passed}
 use Rattle.machine.specs.declared.Ran.{Ran}
 use Rattle.machine.specs.declared.Ran.the-variants.{Done, BadImage, BadList, BadArrivals}
 use Rattle.steps.specs.Refusals.{badImage}
-use Rattle.machine.specs.Calls.{numberOf, storeWord, arrived, badList, outside, badArrivals, runOf, cutOf}
-use Rattle.machine.specs.Fits.{Fits, Passed, passed, passes, all-fit, line-inside}
+use Rattle.machine.specs.Calls.{numberOf, arrived, badList, outside, badArrivals, runOf, cutOf}
+use Rattle.machine.specs.Fits.{Passed, passed, passes, line-inside}
 
 -- ---- the number tells the answer, so the contracts allow one result
 
@@ -119,32 +115,6 @@ module _ (image list : List ℕ) (n : ℕ) where
         let o : anyBelow (outside list n arrivals) (length image / 64) ≡ false =
         none-make (outside list n arrivals) (length image / 64) (λ l h. rw (le-ltb _ _ (A .permitted .least l)) (le-ltb _ _ (A .permitted .most l))) in
         rw (p .0, p .1, eq-eqb _ _ (A .lines), o) (refl, refl)
-
--- ---- in words
-
-module _ (image list : List ℕ) (n : ℕ) (P : Passed (length image) list n) (small : (i : ℕ) → getD list i 0 < 2 ^ 64) where
-  -- a store of the list is inside the image, and its value is a word
-  abbrev Held : ℕ → ℕ → Type 0
-  Held p v = (8 * p + 8 ≤ length image) × (v < 2 ^ 64)
-
-  held : EachStore (stepAt list) n (λ i p v. Held p v)
-  held i p v h e =
-      let f : Fits (length image) (store p v) = rw e at (all-fit (length image) list n P i h) in
-      let x = pair-of (length image) (stepAt list i) (getD list (2 * i) 0) (getD list (2 * i + 1) 0) (P .formed i h) in
-      (f, omega (arith, small (2 * i + 1), ap second e, x .second-is))
-
-  pub run-reads : reads (run storeWord (stepAt list) image n) ≡ run upd (stepAt list) (reads image) n
-  run-reads =
-      run-view storeWord upd reads Held (λ m. length m ≡ length image) (λ m p v f e. length-store m (8 * p) v ∙ e)
-      (λ m p v f e. reads-store m p v (omega arith) (f .1))
-      (stepAt list) image n held refl
-
-  pub cut-reads : (a : ℕ → ℕ)
-      → reads (cut storeWord line (stepAt list) a image n) ≡ cut upd line (stepAt list) a (reads image) n
-  cut-reads a =
-      cut-view storeWord upd reads Held (λ m. length m ≡ length image) (λ m p v f e. length-store m (8 * p) v ∙ e)
-      (λ m p v f e. reads-store m p v (omega arith) (f .1))
-      line (stepAt list) a image n held refl
 
 -- ---- a list written step by step
 

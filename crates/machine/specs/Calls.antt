@@ -4,7 +4,7 @@ use mathlib.Core.Bool.{Bool, not, cond, _||_}
 use mathlib.Core.List.{List, [], _∷_}
 use lib.ListN.{length, getD}
 use lib.Dec.{ltb, eqb}
-use Rattle.words.specs.Words.{storeAt}
+pub use Rattle.words.specs.Words.{storeWord}
 use Rattle.steps.specs.Below.{anyBelow}
 use Rattle.steps.specs.Model.{line, made, run, cut, rule01, settled}
 use Rattle.steps.specs.Encoding.{stepAt, formedAt}
@@ -18,10 +18,6 @@ numberOf Done = 0
 numberOf BadImage = 1
 numberOf BadList = 7
 numberOf BadArrivals = 10
-
--- an image as a memory: a store of the word p
-abbrev pub storeWord : List ℕ → ℕ → ℕ → List ℕ
-storeWord image p v = storeAt image (8 * p) v
 
 -- "given for each line how many of its stores in the first n steps arrived"
 abbrev pub arrived : List ℕ → ℕ → ℕ

@@ -7,13 +7,13 @@ use mathlib.Core.Logic.{_≢_}
 use mathlib.Core.Path.{_≡_, sym, ap, ap₂, _∙_}
 use lib.Dec.{ltb}
 use lib.ListN.{length, getD, length-append}
-use Rattle.header.specs.Header.{flipped}
+use Rattle.header.specs.Header.{flipped, clearedAll}
 use Rattle.leaf.specs.Leaf.{Leaf, Right, view}
 use Rattle.leaf.specs.Search.{count}
 use Rattle.steps.specs.declared.Step.{Step}
 use Rattle.steps.specs.Encoding.{written}
 use Rattle.lists.specs.Lists.{headIn, plainPut}
-use Rattle.lists.specs.FullLists.{movedSlots, firstKey, goesUp, clearedAll, splitList, putBelow, fullPut}
+use Rattle.lists.specs.FullLists.{movedSlots, firstKey, goesUp, splitList, putBelow, fullPut}
 use Rattle.lists.specs.Served.{Small}
 use Rattle.lists.specs.Sizes.{split-length}
 use Rattle.lists.specs.AfterSplit.{plain-after}
@@ -21,7 +21,7 @@ use Rattle.emit.specs.Appended.{appended, Wrote, appended-written}
 use Rattle.split.specs.Stores.{switched-same}
 
 -- of any image that has the leaf L with the header h as block b, full and right, and another block c
-pub record Holds (h : ℕ) (L : Leaf) (b c : ℕ) (w : ℕ → ℕ) : Type 0 where
+pub record HasFullLeaf (h : ℕ) (L : Leaf) (b c : ℕ) (w : ℕ → ℕ) : Type 0 where
   pub head : headIn w b ≡ h
   pub leaf : view w b ≡ L
   pub words : Small w
@@ -32,7 +32,7 @@ pub record Holds (h : ℕ) (L : Leaf) (b c : ℕ) (w : ℕ → ℕ) : Type 0 whe
 -- .. the list is written, and r tells its length
 abbrev pub FullPut : ℕ → Leaf → ℕ → ℕ → ℕ → ℕ → List ℕ → List ℕ → ℕ → Type 0
 FullPut h L b c k v before behind r =
-    (w : ℕ → ℕ) → Holds h L b c w → (behind ≡ written (fullPut w b c k v) before) × (r ≡ length (fullPut w b c k v))
+    (w : ℕ → ℕ) → HasFullLeaf h L b c w → (behind ≡ written (fullPut w b c k v) before) × (r ≡ length (fullPut w b c k v))
 
 -- whether the new key goes up, by the first of the moved slots
 pub up-is : (L : Leaf) (ss : List ℕ) (k x : ℕ) → ss ≡ movedSlots L → length ss ≡ 7 → x ≡ L .key (getD ss 0 0)

@@ -6,9 +6,9 @@ use mathlib.Core.List.{List, [], _∷_}
 use mathlib.Core.Path.{_≡_, sym, ap, _∙_}
 use lib.ListN.{length, getD, drop, drop-of-length-le}
 use lib.Seq.{drop-cons}
-use Rattle.header.specs.Header.{marked, cleared, fingerprintOf}
+use Rattle.header.specs.Header.{marked, cleared, fingerprintOf, clearedAll}
 use Rattle.leaf.specs.Leaf.{Leaf}
-use Rattle.lists.specs.FullLists.{markedFrom, clearedAll}
+use Rattle.lists.specs.FullLists.{markedFrom}
 
 -- the list from i on: its element there, and the rest
 pub drop-next : (ss : List ℕ) (i : ℕ) → i < length ss → drop i ss ≡ getD ss i 0 ∷ drop (i + 1) ss

@@ -5,7 +5,7 @@ use mathlib.Core.Bool.{Bool, cond}
 use mathlib.Core.List.{List, [], _∷_, _++_, append-assoc}
 use mathlib.Core.Path.{_≡_, refl, sym, ap, ap₂, _∙_}
 use lib.ListN.{length, getD, drop, replicate, length-append}
-use Rattle.header.specs.Header.{altIn, flipped}
+use Rattle.header.specs.Header.{altIn, flipped, clearedAll}
 use Rattle.leaf.specs.Leaf.{Leaf, view}
 use Rattle.steps.specs.declared.Step.{Step}
 use Rattle.steps.specs.declared.Step.the-variants.{Store as store, Fence as fence}
@@ -13,9 +13,9 @@ use Rattle.steps.specs.Encoding.{written, putStep}
 use Rattle.steps.specs.Shapes.{oneStore}
 use Rattle.steps.specs.Stores.{storesFrom, stores-length}
 use Rattle.lists.specs.Lists.{wordPlace, sibPlace, lowWord, highWord, headIn}
-use Rattle.lists.specs.FullLists.{movedSlots, goesUp, newHeader, entryWords, newWords, clearedAll, switchedHead}
+use Rattle.lists.specs.FullLists.{movedSlots, goesUp, newHeader, entryWords, newWords, switchedHead}
 use Rattle.lists.specs.FullLists.{splitStores, splitBacks, splitList}
-use Rattle.lists.specs.Sizes.{new-length, split-length}
+use Rattle.lists.specs.Sizes.{new-length, split-length, entry-length}
 use Rattle.emit.specs.Appended.{appended, appended-append, appended-start, step-first, stretch-more}
 use Rattle.split.specs.Heads.{drop-next, drop-end}
 
@@ -87,10 +87,6 @@ module _ (list r whole : List ℕ) (at p i : ℕ) where
       ∙ q
 
 -- ---- the new leaf
-
-entry-length : (L : Leaf) (ss : List ℕ) → length (entryWords L ss) ≡ 2 * length ss
-entry-length L [] = refl
-entry-length L (s ∷ ss) = omega (arith, entry-length L ss)
 
 pub new-leaf : (l0 l1 l2 l3 : List ℕ) (p : ℕ) (up : Bool) (L : Leaf) (ss : List ℕ) (k v h x y n : ℕ) → length ss ≡ 7
     → l1 ≡ appended l0 0 (storesFrom p (lowWord h ∷ highWord h ∷ (replicate 12 0 ++ (x ∷ y ∷ []))))

@@ -5,9 +5,9 @@ use leaf::search::key_at;
 ghost use mathlib.Core.Path.{_≡_};
 ghost use Prim.Native.Nat.{ℕ, _≤_, _<_};
 ghost use lib.ListN.{length, getD};
-ghost use Rattle.header.specs.Header.{bitsOf, flipped};
+ghost use Rattle.header.specs.Header.{bitsOf, flipped, clearedAll};
 ghost use Rattle.leaf.specs.Leaf.{leafIn};
-ghost use Rattle.lists.specs.FullLists.{markedFrom, newHeader, clearedAll};
+ghost use Rattle.lists.specs.FullLists.{markedFrom, newHeader};
 
 // The moved entries in slots 7 to 13.
 fn upper_head(leaf: &[u8], moved: &[u64]) -> Header

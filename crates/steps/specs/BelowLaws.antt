@@ -8,14 +8,10 @@ use mathlib.Core.Path.{_≡_, refl, sym, ap, _∙_}
 use mathlib.Core.Logic.{_⊎_, inl, inr}
 use lib.Dec.{ltb}
 use borrow.Author.Tests.{ltb-true, lt-ltb}
+use Rattle.words.specs.Bools.{by-test}
 use Rattle.steps.specs.Below.{anyBelow, one, countBelow}
 
 -- ---- going by cases
-
--- by the value of a test
-pub split : (P : Bool → Type 0) (b : Bool) → (b ≡ true → P true) → (b ≡ false → P false) → P b
-split P true f g = f refl
-split P false f g = g refl
 
 -- an index is below k, or k and so many more
 pub by-parts : (k : ℕ) (P : ℕ → Type 0) → ((i : ℕ) → i < k → P i) → ((d : ℕ) → P (k + d)) → (i : ℕ) → P i
@@ -75,7 +71,7 @@ any-make f (suc n) i h e =
 pub any-at : (f : ℕ → Bool) (n : ℕ) → anyBelow f n ≡ true → (i : ℕ) × (i < n) × (f i ≡ true)
 any-at f zero e = absurd (false≢true e)
 any-at f (suc n) e =
-    split (λ b. b || f n ≡ true → (i : ℕ) × (i < suc n) × (f i ≡ true)) (anyBelow f n)
+    by-test (λ b. b || f n ≡ true → (i : ℕ) × (i < suc n) × (f i ≡ true)) (anyBelow f n)
     (λ t x. let (i, h, y) = any-at f n t in (i, omega arith, y))
     (λ t x. (n, omega arith, x))
     e
@@ -83,7 +79,7 @@ any-at f (suc n) e =
 -- at none of them
 pub any-none : (f : ℕ → Bool) (n i : ℕ) → anyBelow f n ≡ false → i < n → f i ≡ false
 any-none f n i e h =
-    split (λ t. f i ≡ t → t ≡ false) (f i) (λ t y. absurd (true≢false (sym (any-make f n i h y) ∙ e))) (λ t y. refl) refl
+    by-test (λ t. f i ≡ t → t ≡ false) (f i) (λ t y. absurd (true≢false (sym (any-make f n i h y) ∙ e))) (λ t y. refl) refl
 
 pub none-make : (f : ℕ → Bool) (n : ℕ) → ((i : ℕ) → i < n → f i ≡ false) → anyBelow f n ≡ false
 none-make f zero h = refl
@@ -126,7 +122,7 @@ module _ (f : ℕ → Bool) where
       go : Dec (c < countBelow f n) → (c < countBelow f n → Nth n) → Nth (suc n)
       go (yes l) ih = let (i, k, e, o) = ih l in (i, omega arith, e, o)
       go (no l) ih =
-          split (λ b. f n ≡ b → c < countBelow f n + one b → Nth (suc n)) (f n)
+          by-test (λ b. f n ≡ b → c < countBelow f n + one b → Nth (suc n)) (f n)
           (λ t e k. (n, omega arith, e, omega arith))
           (λ t e k. absurd (omega arith))
           refl
@@ -140,7 +136,7 @@ module _ (f g : ℕ → Bool) where
   pub count-sub : (n : ℕ) → ((i : ℕ) → f i ≡ true → g i ≡ true) → countBelow f n ≤ countBelow g n
   count-sub zero h = omega arith
   count-sub (suc n) h =
-      split (λ b. f n ≡ b → countBelow f n + one b ≤ countBelow g (suc n)) (f n)
+      by-test (λ b. f n ≡ b → countBelow f n + one b ≤ countBelow g (suc n)) (f n)
       (λ t e. rw (h n e) (omega (arith, count-sub n h)))
       (λ t e. omega (arith, count-sub n h))
       refl

@@ -9,7 +9,8 @@ use lib.ListN.{length, getD, set, drop, length-append, length-drop}
 use lib.Seq.{drop-cons, set-at}
 use lib.Dec.{ltb, eqb}
 use borrow.Author.Tests.{ltb-true, ltb-false, lt-ltb, le-ltb, eqb-true, eq-eqb}
-use Rattle.steps.specs.BelowLaws.{split, and-true}
+use Rattle.words.specs.Bools.{by-test}
+use Rattle.steps.specs.BelowLaws.{and-true}
 use Rattle.steps.specs.Model.{Step, store, writeBack, fence}
 use Rattle.steps.specs.Encoding.{first, second, inImage, decode, isPair, wellFormed, stepAt, formedAt}
 use Rattle.steps.specs.Encoding.{stepsOf, encode, written, putStep}
@@ -51,10 +52,10 @@ pair-of z x a b e =
 pub first-small : (a b : ℕ) → a < 2 ^ 64 → first (decode a b) < 2 ^ 64
 unfolding decode
 first-small a b h =
-    split (λ t. first (cond t (store (a / 8) b) (cond (ltb a 8589934592) (writeBack (a - 4294967296)) fence)) < 2 ^ 64)
+    by-test (λ t. first (cond t (store (a / 8) b) (cond (ltb a 8589934592) (writeBack (a - 4294967296)) fence)) < 2 ^ 64)
     (ltb a 4294967296)
     (λ e. omega arith)
-    (λ e. split (λ t. first (cond t (writeBack (a - 4294967296)) fence) < 2 ^ 64) (ltb a 8589934592)
+    (λ e. by-test (λ t. first (cond t (writeBack (a - 4294967296)) fence) < 2 ^ 64) (ltb a 8589934592)
     (λ t. omega (arith, ltb-false a 4294967296 e))
     (λ t. omega arith))
 

@@ -6,8 +6,9 @@ use mathlib.Core.Bool.{Bool, true, cond}
 use mathlib.Core.Path.{_≡_, refl}
 use lib.Dec.{ltb}
 use borrow.Author.Tests.{ltb-true, lt-ltb, eq-eqb}
+use Rattle.words.specs.Bools.{by-test}
 use Rattle.steps.specs.Below.{anyBelow}
-use Rattle.steps.specs.BelowLaws.{split, same-test, any-make, any-at, grow}
+use Rattle.steps.specs.BelowLaws.{same-test, any-make, any-at, grow}
 use Rattle.steps.specs.Model.{Step, store, writeBack, fence, Steps, writesBack, rule01, isSettled}
 use Rattle.steps.specs.Settling.{Settled, is-back, settled-test, test-settled}
 
@@ -31,7 +32,7 @@ reach s f l = cond (hadBack s f l) f 0
 
 pub in-reach : (s : Steps) (f l i : ℕ) → i < reach s f l → (hadBack s f l ≡ true) × (i < f)
 in-reach s f l i =
-    split (λ t. hadBack s f l ≡ t → i < cond t f 0 → (hadBack s f l ≡ true) × (i < f)) (hadBack s f l)
+    by-test (λ t. hadBack s f l ≡ t → i < cond t f 0 → (hadBack s f l ≡ true) × (i < f)) (hadBack s f l)
     (λ t e h. (e, h))
     (λ t e h. absurd (omega arith))
     refl

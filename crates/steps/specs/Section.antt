@@ -8,7 +8,8 @@ use mathlib.Core.Path.{_≡_, refl, sym, ap, _∙_}
 use mathlib.Core.Logic.{_⊎_, inl, inr}
 use lib.Dec.{ltb}
 use borrow.Author.Tests.{ltb-true, lt-ltb}
-use Rattle.steps.specs.BelowLaws.{split, grow}
+use Rattle.words.specs.Bools.{by-test}
+use Rattle.steps.specs.BelowLaws.{grow}
 use Rattle.steps.specs.Model.{Step, store, writeBack, fence, Steps, line, made, land, arrives, run, cut}
 use Rattle.steps.specs.Model.{Rule, Permitted}
 use Rattle.steps.specs.Settling.{EachStore, Arrives, Settled, AllSettled, Lawful, InLines}
@@ -77,7 +78,7 @@ module _ (unit : ℕ → ℕ) {M : Type 0} (write : M → ℕ → ℕ → M) whe
     land-keeps : (a c : ℕ → ℕ) (m : M) (x : Step) → ((p v : ℕ) → x ≡ store p v → c (unit p) < a (unit p) → U p v)
         → R m → R (land write (arrives unit a c x) x m)
     land-keeps a c m (store p v) h r =
-        split (λ b. R (cond b (write m p v) m)) (ltb (c (unit p)) (a (unit p)))
+        by-test (λ b. R (cond b (write m p v) m)) (ltb (c (unit p)) (a (unit p)))
         (λ e. up m p v (h p v refl (ltb-true _ _ e)) r)
         (λ e. r)
     land-keeps a c m (writeBack l) h r = r

@@ -8,8 +8,9 @@ use mathlib.Core.Bool.{Bool, true, _&&_, false≢true}
 use mathlib.Core.Path.{_≡_, refl, sym, ap, _∙_}
 use lib.Dec.{eqb}
 use borrow.Author.Tests.{eqb-true, eq-eqb}
+use Rattle.words.specs.Bools.{by-test}
 use Rattle.steps.specs.Below.{anyBelow, countBelow}
-use Rattle.steps.specs.BelowLaws.{split, and-true, any-make, any-at}
+use Rattle.steps.specs.BelowLaws.{and-true, any-make, any-at}
 use Rattle.steps.specs.BelowLaws.{count-le, count-hit, count-nth, count-cong, count-sub}
 use Rattle.steps.specs.Model.{Step, store, writeBack, fence, Steps, line, storesTo, writesBack, isFence, made}
 use Rattle.steps.specs.Model.{Rule, isSettled, settlesIn, settled, Permitted}
@@ -185,7 +186,7 @@ module _ (unit : ℕ → ℕ) (rule : Rule) (s : Steps) (n : ℕ) where
 
         same : (h : ℕ) (x : Step) → s h ≡ x → h ≤ i → storesTo unit (unit p) x ≡ settlesIn unit rule s n (unit p) h x
         same h (store q w) d b =
-            split (λ t. eqb (unit q) (unit p) ≡ t → t ≡ (t && isSettled rule s n h (line q))) (eqb (unit q) (unit p))
+            by-test (λ t. eqb (unit q) (unit p) ≡ t → t ≡ (t && isSettled rule s n h (line q))) (eqb (unit q) (unit p))
             (λ t y.
             sym (settled-test rule s n h (line q) (settled-first h i p q v w b d e (eqb-true (unit q) (unit p) y) r)))
             (λ t y. refl)

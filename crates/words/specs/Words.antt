@@ -34,3 +34,7 @@ storeAt l p v = stores l p 0 (bytesOf v 0 8)
 -- an image as the theory reads it: its words by their number
 unfoldable pub reads : List ℕ → ℕ → ℕ
 reads l i = wordAt l (8 * i)
+
+-- and a store of its word p
+abbrev pub storeWord : List ℕ → ℕ → ℕ → List ℕ
+storeWord l p v = storeAt l (8 * p) v

@@ -15,7 +15,7 @@ use Rattle.lists.specs.Lists.{headIn}
 use Rattle.lists.specs.FullLists.{movedSlots}
 use Rattle.lists.specs.FullPut.{moved}
 use Rattle.lists.specs.Bytes.{reads-small}
-use Rattle.split.specs.Full.{Holds}
+use Rattle.split.specs.Full.{HasFullLeaf}
 use Rattle.writing.specs.BlockLaws.{part-head}
 
 module _ (l : List ℕ) (b : ℕ) (right : Right (leaves l b)) (full : count (leaves l b) ≡ 14) where
@@ -34,8 +34,8 @@ module _ (l : List ℕ) (b : ℕ) (right : Right (leaves l b)) (full : count (le
     pub part-starts : h ≡ headAt part 0
     part-starts = head ∙ sym (part-head l b (256 * b) (256 * b + 256) refl refl)
 
-    pub full-holds : (c : ℕ) → Bytes l → b ≢ c → Holds h (leafIn part) b c (reads l)
-    full-holds c bytes apart = record {
+    pub has-full-leaf : (c : ℕ) → Bytes l → b ≢ c → HasFullLeaf h (leafIn part) b c (reads l)
+    has-full-leaf c bytes apart = record {
       head = sym head;
       leaf = sym (part-leaf l b (256 * b) (256 * b + 256) refl refl);
       words = reads-small l bytes;

@@ -9,6 +9,7 @@ use native.Mathlib.Omega.{arith}
 use borrow.Author.Tests.{ne-eqb, lt-ltb, le-ltb}
 use lib.Dec.{eqb}
 use lib.ListN.{length, length-append}
+use Rattle.steps.specs.Model.{isLineWrite, isWordWrite}
 use Rattle.leaf.specs.Leaf.{Leaf, occIn, view}
 use Rattle.leaf.specs.Search.{lowestVacant}
 use Rattle.steps.specs.declared.Step.{Step}
@@ -16,7 +17,7 @@ use Rattle.steps.specs.Encoding.{written}
 use Rattle.lists.specs.Lists.{headIn, farPut, putAt, putFound, plainPut}
 use Rattle.lists.specs.FullLists.{movedSlots, goesUp, after, splitList, putBelow, fullPut}
 use Rattle.lists.specs.Served.{linesOf, wordsOf}
-use Rattle.lists.specs.Parts.{lines-append, words-append}
+use Rattle.lists.specs.Parts.{total-append}
 use Rattle.lists.specs.Sizes.{by-slot, near-size, near-words, far-lines, far-words, split-length, split-lines, split-words}
 use Rattle.emit.specs.Appended.{Wrote, appended-start}
 use Rattle.writing.specs.Writing.{outcome, madeAs}
@@ -148,10 +149,10 @@ module _ (w : ℕ → ℕ) (b c k v : ℕ) (seven : length (movedSlots (view w b
       long = length-append S B
 
       lines : linesOf (S ++ B) ≡ linesOf S + linesOf B
-      lines = lines-append S B
+      lines = total-append isLineWrite S B
 
       words : wordsOf (S ++ B) ≡ wordsOf S + wordsOf B
-      words = words-append S B
+      words = total-append isWordWrite S B
 
   module _ (n : ℕ) (is : n ≡ length (fullPut w b c k v)) where
     pub full-some : 42 ≤ n

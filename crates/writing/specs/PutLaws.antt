@@ -22,7 +22,6 @@ use Rattle.image.specs.ChainLaws.{Good, all-split, sound-good}
 use Rattle.image.specs.Map.{lookup}
 use Rattle.image.specs.Answers.{valueAt}
 use Rattle.image.specs.Image.{blocks, leaves}
-use Rattle.image.specs.Blocks.{view-size}
 use Rattle.survey.specs.Marks.{isIn}
 use Rattle.survey.specs.Walk.{surveyed}
 use Rattle.index.specs.Reading.{entriesIn, isNone}
@@ -104,9 +103,6 @@ full-vacant w b = by (lowestVacant (occIn (headIn w b)) 14) refl
         let r = vacant-at (occIn (headIn w b)) 14 s e in
         ne-eqb (countTo (occIn (headIn w b)) 14) 14 (λ q. omega (arith, count-less (occIn (headIn w b)) 14 s (r .0) (r .1)))
     by Missing e = eq-eqb (countTo (occIn (headIn w b)) 14) 14 (count-all (occIn (headIn w b)) 14 (vacant-none (occIn (headIn w b)) 14 e))
-
-pub vacant-full : (w : ℕ → ℕ) (b : ℕ) → lowestVacant (occIn (headIn w b)) 14 ≡ Missing → count (view w b) ≡ 14
-vacant-full w b e = eqb-true (count (view w b)) (view w b .size) (full-vacant w b ∙ ap isMissing e) ∙ view-size w b
 
 -- a block that is out of the set is none that is in it
 pub out-apart : (n b c : ℕ) → isIn n b ≡ true → not (isIn n c) ≡ true → b ≢ c

@@ -4,9 +4,10 @@ use Prim.Native.Nat.{_+_, _≤_, _-_}
 use mathlib.Core.Path.{_≡_, refl, sym, ap, _∙_, subst}
 use native.Mathlib.Omega.{arith}
 use lib.ListN.{length}
+use Rattle.words.specs.Words.{storeWord}
 use Rattle.steps.specs.Model.{line, cut}
 use Rattle.steps.specs.Encoding.{stepAt}
-use Rattle.machine.specs.Calls.{storeWord, arrived}
+use Rattle.machine.specs.Calls.{arrived}
 use Rattle.machine.specs.Tables.{Tally, tally-most, tally-next, counted-length}
 use Rattle.machine.specs.Lost.{arrives-by}
 use Rattle.machine.specs.Turns.{cut-next, cut-length}

@@ -3,9 +3,9 @@ use Prim.Native.Nat.{_≤_, _-_}
 use mathlib.Core.Path.{_≡_, refl, ap, _∙_}
 use native.Mathlib.Omega.{arith}
 use lib.ListN.{length}
+use Rattle.words.specs.Words.{storeWord}
 use Rattle.steps.specs.Model.{run}
 use Rattle.steps.specs.Encoding.{stepAt}
-use Rattle.machine.specs.Calls.{storeWord}
 use Rattle.machine.specs.Turns.{run-next, run-length}
 use Rattle.machine.proofs.memory.run_steps.Statement.{statement}
 use Rattle.machine.proofs.memory.run_steps.Tie as tie

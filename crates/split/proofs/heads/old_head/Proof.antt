@@ -3,8 +3,7 @@ use native.Mathlib.Omega.{arith}
 use Prim.Native.Nat.{_-_, _≤_}
 use mathlib.Core.Path.{_≡_, refl, sym, ap, _∙_}
 use lib.ListN.{drop}
-use Rattle.header.specs.Header.{bitsOf, flipped}
-use Rattle.lists.specs.FullLists.{clearedAll}
+use Rattle.header.specs.Header.{bitsOf, flipped, clearedAll}
 use Rattle.split.specs.Heads.{drop-end, cleared-next}
 use Rattle.split.proofs.heads.old_head.Statement.{statement}
 use Rattle.split.proofs.heads.old_head.Tie as tie

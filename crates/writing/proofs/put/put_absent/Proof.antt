@@ -15,7 +15,8 @@ use Rattle.image.specs.Image.{blocks, leaves}
 use Rattle.survey.specs.Marks.{setOf, isIn}
 use Rattle.lists.specs.Lists.{putAt}
 use Rattle.writing.specs.Writing.{outcome}
-use Rattle.writing.specs.PutLaws.{putBy, vacant-full}
+use Rattle.lists.specs.Put.{none-vacant}
+use Rattle.writing.specs.PutLaws.{putBy}
 use Rattle.writing.proofs.put.put_absent.Statement.{statement}
 use Rattle.writing.proofs.put.put_absent.Tie as tie
 
@@ -43,7 +44,7 @@ put-split-requires c κs =
       s .pre .4,
       s .pre .5,
       s .pre .6,
-      vacant-full (reads (now (a .image))) (a .block)
+      none-vacant (reads (now (a .image))) (a .block)
           (ap (λ (h : ℕ). lowestVacant (occIn h) 14) (sym (s .pre .4)) ∙ sym (p .lowest-vacant .ensures) ∙ t .enum-told .given .1),
     )
 

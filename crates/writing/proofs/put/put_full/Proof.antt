@@ -4,7 +4,7 @@ use denote.Ref.{now}
 use Rattle.words.specs.Words.{reads}
 use Rattle.header.specs.Header.{bitsOf}
 use Rattle.writing.specs.PutCounts.{full-some, full-told}
-use Rattle.writing.specs.FullLaws.{seven-move, part-seven, part-starts, full-holds}
+use Rattle.writing.specs.FullLaws.{seven-move, part-seven, part-starts, has-full-leaf}
 use Rattle.writing.proofs.put.put_full.Statement.{statement}
 use Rattle.writing.proofs.put.put_full.Tie as tie
 
@@ -30,7 +30,7 @@ full-made-requires c κs =
     let l = now (a .image) in
     full-some (reads l) (a .block) (a .new) (a .key) (a .value) (seven-move l (a .block) (s .pre .6) (s .pre .7)) (p .write-full-put .result)
     (p .write-full-put .ensures (reads l)
-    (full-holds l (a .block) (s .pre .6) (s .pre .7) (bitsOf (a .head)) (s .pre .4) (a .new) (λ i. omega (arith, k .shared-slice-known .given i)) (s .pre .5))
+    (has-full-leaf l (a .block) (s .pre .6) (s .pre .7) (bitsOf (a .head)) (s .pre .4) (a .new) (λ i. omega (arith, k .shared-slice-known .given i)) (s .pre .5))
     .1)
 
 returns : tie.Need-returns
@@ -41,7 +41,7 @@ returns c =
     let a = s .args in
     let l = now (a .image) in
     let y = p .write-full-put .ensures (reads l)
-    (full-holds l (a .block) (s .pre .6) (s .pre .7) (bitsOf (a .head)) (s .pre .4) (a .new) (λ i. omega (arith, k .shared-slice-known .given i)) (s .pre .5)) in
+    (has-full-leaf l (a .block) (s .pre .6) (s .pre .7) (bitsOf (a .head)) (s .pre .4) (a .new) (λ i. omega (arith, k .shared-slice-known .given i)) (s .pre .5)) in
     full-told (reads l) (a .block) (a .new) (a .key) (a .value) (seven-move l (a .block) (s .pre .6) (s .pre .7)) (p .write-full-put .result) (y .1)
     (c .full-made .result) (now (a .list)) _ (y .0) (c .full-made .ensures)
 
