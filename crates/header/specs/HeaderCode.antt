@@ -9,7 +9,8 @@ use lib.Dec.{eqb, lit<, lit≤}
 use lib.Pow.{pow-add, high, low, shr-shr}
 use Rattle.header.specs.Fields.{field, patched}
 use Rattle.header.specs.FieldLaws.{field-lt, field-le, field-of-low, patched-code, patched-lt}
-use Rattle.header.specs.Header.{whole, isOccupied, isLocked, altIn, fingerprintIn, marked, cleared, flipped, xorOfBytes, fingerprintOf}
+use Rattle.header.specs.Header.{whole, isOccupied, isLocked, altIn, fingerprintIn, marked, cleared, flipped}
+use Rattle.header.specs.Header.{xorOfBytes, fingerprintOf}
 use Rattle.header.specs.Xor.{xor-assoc}
 
 -- ---- fields of the whole

@@ -44,7 +44,8 @@ module _ (l : List ℕ) (key : ℕ) (fine : badImage (length l) ≡ false) where
 pub test-sound : (l : List ℕ) → badImage (length l) ≡ false → isSound l ≡ true → SoundImage l
 unfolding isSound
 test-sound l fine e =
-    let s = survey-sound l 0 fine (eqb-true (surveyed (leaves l) (blocks l) 0 .stage) 1 e) in record { chain = s .chain; sound = s .sound }
+    let s = survey-sound l 0 fine (eqb-true (surveyed (leaves l) (blocks l) 0 .stage) 1 e) in
+    record { chain = s .chain; sound = s .sound }
 
 pub sound-test : (l : List ℕ) → badImage (length l) ≡ false → SoundImage l → isSound l ≡ true
 unfolding isSound
@@ -62,7 +63,8 @@ module _ (l : List ℕ) (key : ℕ) (fine : badImage (length l) ≡ false) where
 
 -- ---- the chain as the function finds it
 
-chain-is : (I : ℕ → Leaf) (n b : ℕ) (bs : List ℕ) → All (λ x. x ≢ 0) bs → Links I (I b .next) bs 0 → length bs < n → chainFrom I n b ≡ b ∷ bs
+chain-is : (I : ℕ → Leaf) (n b : ℕ) (bs : List ℕ) → All (λ x. x ≢ 0) bs → Links I (I b .next) bs 0 → length bs < n
+    → chainFrom I n b ≡ b ∷ bs
 unfolding chainFrom
 chain-is I zero b bs z l h = absurd (omega arith)
 chain-is I (suc n) b [] z l h = ap (λ (t : Bool). b ∷ cond t [] (chainFrom I n (I b .next))) (eq-eqb (I b .next) 0 l)
@@ -89,7 +91,8 @@ pub record Aimed (I : ℕ → Leaf) (key : ℕ) (bs : List ℕ) (target before :
   pub target-is : Target I target behind key
   pub before-is : (target ≡ 0 → ⊥) → before ≡ lastOf front
 
-pub aim-target : (I : ℕ → Leaf) (N key : ℕ) (bs : List ℕ) (target before : ℕ) → Sound I N bs → Aim I key bs target before → Aimed I key bs target before
+pub aim-target : (I : ℕ → Leaf) (N key : ℕ) (bs : List ℕ) (target before : ℕ) → Sound I N bs → Aim I key bs target before
+    → Aimed I key bs target before
 aim-target I N key [] target before S a = absurd (S .starts)
 aim-target I N key (b ∷ bs) target before S (nowhere f z) = record {
   front = [];
@@ -154,7 +157,8 @@ pub long-enough : (l : List ℕ) → badImage (length l) ≡ false → (256 ≤ 
 long-enough l fine = let z = good-length l fine in (omega (arith, z .whole, z .some), omega (arith, z .whole, z .most))
 
 -- the blocks that a survey notes are of the image
-pub noted-bounds : (l : List ℕ) (key : ℕ) → badImage (length l) ≡ false → Bounded (blocks l) (blocks l) (surveyed (leaves l) (blocks l) key)
+pub noted-bounds : (l : List ℕ) (key : ℕ) → badImage (length l) ≡ false
+    → Bounded (blocks l) (blocks l) (surveyed (leaves l) (blocks l) key)
 noted-bounds l key fine = surveyed-bounded (reads l) (blocks l) key ((good-length l fine) .some)
 
 pub block-inside : (l : List ℕ) (b : ℕ) → badImage (length l) ≡ false → b < blocks l → 256 * b + 256 ≤ length l

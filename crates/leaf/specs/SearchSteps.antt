@@ -96,7 +96,8 @@ closest-step L k s best r e q = rw (add-one s, q, e)
 closest-within : (L : Leaf) (k n : ℕ) → Within n (closest L k n)
 unfolding closest
 closest-within L k zero = tt
-closest-within L k (suc n) = grown (both (L .occ n) (both (leb k (L .key n)) (nearer L n (closest L k n)))) (closest L k n) (closest-within L k n)
+closest-within L k (suc n) = grown (both (L .occ n) (both (leb k (L .key n)) (nearer L n (closest L k n)))) (closest L k n)
+    (closest-within L k n)
   where
     grown : (b : Bool) (x : Slot) → Within n x → Within (suc n) (pickSlot b n x)
     grown true x h = omega arith
@@ -128,4 +129,5 @@ module _ (l : List ℕ) (k : ℕ) where
 
   pub least-whole : (s : ℕ) (best : Slot) → best ≡ closest (leafIn l) k s → s ≡ 14 → (best ≡ leastFrom (leafIn l) k) × Within 14 best
   unfolding leastFrom leafIn
-  least-whole s best e q = let f : best ≡ closest (leafIn l) k 14 = e ∙ ap (closest (leafIn l) k) q in (f, best-within (leafIn l) k 14 best f (omega arith))
+  least-whole s best e q = let f : best ≡ closest (leafIn l) k 14 = e ∙ ap (closest (leafIn l) k) q in
+      (f, best-within (leafIn l) k 14 best f (omega arith))

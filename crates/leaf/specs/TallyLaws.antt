@@ -23,7 +23,8 @@ module _ (L : Leaf) (inside : (s : ℕ) → Taken L s → s < L .size) where
       (not-false (eqb (L .fp s) (fingerprintOf (L .key s))) (sym (rw o) ∙ count-none (wrongAt L) (L .size) e s (inside s o)))
 
   -- two occupied slots with one key, t the lower
-  lower : ((s : ℕ) → Taken L s → L .fp s ≡ fingerprintOf (L .key s)) → twins L ≡ false → (s t : ℕ) → t < s → Taken L s → Taken L t → L .key t ≡ L .key s → ⊥
+  lower : ((s : ℕ) → Taken L s → L .fp s ≡ fingerprintOf (L .key s)) → twins L ≡ false → (s t : ℕ) → t < s → Taken L s
+      → Taken L t → L .key t ≡ L .key s → ⊥
   unfolding twins twinAt shares
   lower p e s t b o q k =
       let f : L .fp t ≡ L .fp s = p t q ∙ ap fingerprintOf k ∙ sym (p s o) in
@@ -47,7 +48,8 @@ module _ (L : Leaf) (inside : (s : ℕ) → Taken L s → s < L .size) where
 module _ (L : Leaf) (r : Right L) where
   pub right-prints : countTo (wrongAt L) (L .size) ≡ 0
   unfolding wrongAt
-  right-prints = count-zero (wrongAt L) (L .size) (λ s b. by-test (λ o. L .occ s ≡ o → both o (not (eqb (L .fp s) (fingerprintOf (L .key s)))) ≡ false) (L .occ s)
+  right-prints = count-zero (wrongAt L) (L .size)
+      (λ s b. by-test (λ o. L .occ s ≡ o → both o (not (eqb (L .fp s) (fingerprintOf (L .key s)))) ≡ false) (L .occ s)
       (λ x o. ap not (eq-eqb (L .fp s) (fingerprintOf (L .key s)) (r .prints s o)))
       (λ x o. refl)
       refl)

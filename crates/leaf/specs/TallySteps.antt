@@ -59,7 +59,8 @@ noted last sought print key hit t = record {
 }
 
 pub noted-is : (last sought print key hit : ℕ) (t : Tally) (own wrong low reached most : ℕ) → own ≡ fingerprintOf key
-    → wrong ≡ cond (not (eqb print own)) 1 0 → low ≡ cond (leb key last) 1 0 → reached ≡ cond (leb key sought) 1 0 → most ≡ max (t .most) key
+    → wrong ≡ cond (not (eqb print own)) 1 0 → low ≡ cond (leb key last) 1 0 → reached ≡ cond (leb key sought) 1 0
+    → most ≡ max (t .most) key
     → _≡_ {A = Tally} (record {
       entries = t .entries + 1;
       wrong = t .wrong + wrong;
@@ -107,7 +108,8 @@ module _ (L : Leaf) (last sought : ℕ) where
   }
 
   -- a slot whose fingerprint bore no stamp of this leaf has no twin below
-  unstamped : (s number : ℕ) (stamps : List ℕ) → Stamped L number s stamps → getD stamps (L .fp s) 0 ≢ number → someTo (shares L s) s ≡ false
+  unstamped : (s number : ℕ) (stamps : List ℕ) → Stamped L number s stamps → getD stamps (L .fp s) 0 ≢ number
+      → someTo (shares L s) s ≡ false
   unfolding shares
   unstamped s number stamps h ne = some-none (shares L s) s (λ t b. not-so (shares L s t) (λ e.
       let r = both-true (L .occ t) (both (eqb (L .fp t) (L .fp s)) (eqb (L .key t) (L .key s))) e in
@@ -163,21 +165,24 @@ stamped-taken L number s stamps r print h ep b er t c o = rw er (elim (ℕ-discr
   ]
 ])
 
-pub stamped-vacant : (L : Leaf) (number s : ℕ) (stamps : List ℕ) → Stamped L number s stamps → L .occ s ≡ false → Stamped L number (s + 1) stamps
+pub stamped-vacant : (L : Leaf) (number s : ℕ) (stamps : List ℕ) → Stamped L number s stamps → L .occ s ≡ false
+    → Stamped L number (s + 1) stamps
 stamped-vacant L number s stamps h v t c o =
     elim (ℕ-discrete t s) [ yes q ↦ differ (sym o ∙ ap (L .occ) q ∙ v) | no q ↦ h t (omega arith) o ]
 
 -- the whole pass, over the 14 slots
-pub tells-whole : (l : List ℕ) (last sought s : ℕ) (t : Tally) → TellsTo (leafIn l) last sought s t → s ≡ 14 → Tells (leafIn l) last sought t
+pub tells-whole : (l : List ℕ) (last sought s : ℕ) (t : Tally) → TellsTo (leafIn l) last sought s t → s ≡ 14
+    → Tells (leafIn l) last sought t
 unfolding leafIn count twins
-tells-whole l last sought s t h e = let w : TellsTo (leafIn l) last sought 14 t = subst (λ (n : ℕ). TellsTo (leafIn l) last sought n t) e h in record {
-  entries = w .entries;
-  wrong = w .wrong;
-  low = w .low;
-  reached = w .reached;
-  most = w .most;
-  alone = w .alone;
-}
+tells-whole l last sought s t h e =
+    let w : TellsTo (leafIn l) last sought 14 t = subst (λ (n : ℕ). TellsTo (leafIn l) last sought n t) e h in record {
+      entries = w .entries;
+      wrong = w .wrong;
+      low = w .low;
+      reached = w .reached;
+      most = w .most;
+      alone = w .alone;
+    }
 
 -- ---- the search for twins
 

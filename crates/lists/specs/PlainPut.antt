@@ -72,7 +72,10 @@ module _ (rule : Rule) (L : Lawful rule) (w : ℕ → ℕ) (small : Small w) (N 
   near-served near =
       section-served rule L w N bs S (nearPut (headIn w b) b s k v) (putIn k v (listOf (view w) bs)) perPut (
         (omega (arith, inside), key),
-        ((omega (arith, inside), val), ((omega (arith, inside), low-small (newHead (block w b) s k)), (omega (arith, inside), (tt, tt)))),
+        (
+          (omega (arith, inside), val),
+          ((omega (arith, inside), low-small (newHead (block w b) s k)), (omega (arith, inside), (tt, tt))),
+        ),
       )
       (one-line-section line lines-in-lines rule L (Harmless w bs) (entrySteps b s k v) (wordPlace b 0) low (
         (harmless (2 + 2 * s) k (of-key s slot vacant refl) (omega arith), omega arith),

@@ -113,7 +113,8 @@ module _ (image list : List ℕ) (n : ℕ) where
     cut-accepted P A =
         let p = passes (length image) list n P in
         let o : anyBelow (outside list n arrivals) (length image / 64) ≡ false =
-        none-make (outside list n arrivals) (length image / 64) (λ l h. rw (le-ltb _ _ (A .permitted .least l)) (le-ltb _ _ (A .permitted .most l))) in
+        none-make (outside list n arrivals) (length image / 64)
+        (λ l h. rw (le-ltb _ _ (A .permitted .least l)) (le-ltb _ _ (A .permitted .most l))) in
         rw (p .0, p .1, eq-eqb _ _ (A .lines), o) (refl, refl)
 
 -- ---- a list written step by step

@@ -59,7 +59,8 @@ marked-one true = refl
 marked-one false = refl
 
 module _ (list seen : List ℕ) (i : ℕ) (x : Step) (e : x ≡ stepAt list i)
-    (lined : (p v : ℕ) → stepAt list i ≡ store p v → line p < 1024) (T : Tally (stepAt list) i seen) (wide : 1024 ≤ length seen) (arrivals : List ℕ) where
+    (lined : (p v : ℕ) → stepAt list i ≡ store p v → line p < 1024) (T : Tally (stepAt list) i seen) (wide : 1024 ≤ length seen)
+    (arrivals : List ℕ) where
   pub lost-by : (last : ℕ) (backs : List ℕ) → Backs (stepAt list) last backs → 1024 ≤ length backs
       → lostBy backs seen arrivals x ≡ lostAt list last arrivals i
   lost-by last backs B long = go x e ∙ ap (isLost (stepAt list) last arrivals i) e

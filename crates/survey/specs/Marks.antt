@@ -51,24 +51,31 @@ module _ (a b c d x : ℕ) (sa : a < 2 ^ 64) (sb : b < 2 ^ 64) (sc : c < 2 ^ 64)
 
   pub has-b : 64 ≤ x → x < 128 → eqb (field b (x - 64) 1) 1 ≡ isIn (marksOf a b c d) x
   unfolding isIn
-  has-b g h = ap (λ (n : ℕ). eqb n 1) (sym (step x (x - 64) a (whole b (whole c d)) sa (omega arith) ∙ field-low b (whole c d) (x - 64) 1 sb (omega arith)))
+  has-b g h = ap (λ (n : ℕ). eqb n 1)
+      (sym (step x (x - 64) a (whole b (whole c d)) sa (omega arith) ∙ field-low b (whole c d) (x - 64) 1 sb (omega arith)))
 
   pub has-c : 128 ≤ x → x < 192 → eqb (field c (x - 128) 1) 1 ≡ isIn (marksOf a b c d) x
   unfolding isIn
-  has-c g h = ap (λ (n : ℕ). eqb n 1) (sym (step x (x - 64) a (whole b (whole c d)) sa (omega arith) ∙ step (x - 64) (x - 128) b (whole c d) sb (omega arith) ∙ field-low c d (x - 128) 1 sc (omega arith)))
+  has-c g h = ap (λ (n : ℕ). eqb n 1) (sym (step x (x - 64) a (whole b (whole c d)) sa (omega arith)
+      ∙ step (x - 64) (x - 128) b (whole c d) sb (omega arith) ∙ field-low c d (x - 128) 1 sc (omega arith)))
 
   pub has-d : 192 ≤ x → eqb (field d (x - 192) 1) 1 ≡ isIn (marksOf a b c d) x
   unfolding isIn
-  has-d g = ap (λ (n : ℕ). eqb n 1) (sym (step x (x - 64) a (whole b (whole c d)) sa (omega arith) ∙ step (x - 64) (x - 128) b (whole c d) sb (omega arith) ∙ step (x - 128) (x - 192) c d sc (omega arith)))
+  has-d g = ap (λ (n : ℕ). eqb n 1) (sym (step x (x - 64) a (whole b (whole c d)) sa (omega arith)
+      ∙ step (x - 64) (x - 128) b (whole c d) sb (omega arith) ∙ step (x - 128) (x - 192) c d sc (omega arith)))
 
   pub with-a : x < 64 → marksOf (patched a x 1 1) b c d ≡ patched (marksOf a b c d) x 1 1
   with-a h = sym (patched-low a (whole b (whole c d)) x 1 sa (omega arith) 1)
 
   pub with-b : 64 ≤ x → x < 128 → marksOf a (patched b (x - 64) 1 1) c d ≡ patched (marksOf a b c d) x 1 1
-  with-b g h = sym (up x (x - 64) a (whole b (whole c d)) sa (omega arith) ∙ ap (whole a) (patched-low b (whole c d) (x - 64) 1 sb (omega arith) 1))
+  with-b g h =
+      sym (up x (x - 64) a (whole b (whole c d)) sa (omega arith)
+      ∙ ap (whole a) (patched-low b (whole c d) (x - 64) 1 sb (omega arith) 1))
 
   pub with-c : 128 ≤ x → x < 192 → marksOf a b (patched c (x - 128) 1 1) d ≡ patched (marksOf a b c d) x 1 1
-  with-c g h = sym (up x (x - 64) a (whole b (whole c d)) sa (omega arith) ∙ ap (whole a) (up (x - 64) (x - 128) b (whole c d) sb (omega arith) ∙ ap (whole b) (patched-low c d (x - 128) 1 sc (omega arith) 1)))
+  with-c g h = sym (up x (x - 64) a (whole b (whole c d)) sa (omega arith)
+      ∙ ap (whole a) (up (x - 64) (x - 128) b (whole c d) sb (omega arith) ∙ ap (whole b) (patched-low c d (x - 128) 1 sc (omega arith) 1)))
 
   pub with-d : 192 ≤ x → marksOf a b c (patched d (x - 192) 1 1) ≡ patched (marksOf a b c d) x 1 1
-  with-d g = sym (up x (x - 64) a (whole b (whole c d)) sa (omega arith) ∙ ap (whole a) (up (x - 64) (x - 128) b (whole c d) sb (omega arith) ∙ ap (whole b) (up (x - 128) (x - 192) c d sc (omega arith))))
+  with-d g = sym (up x (x - 64) a (whole b (whole c d)) sa (omega arith)
+      ∙ ap (whole a) (up (x - 64) (x - 128) b (whole c d) sb (omega arith) ∙ ap (whole b) (up (x - 128) (x - 192) c d sc (omega arith))))

@@ -13,13 +13,15 @@ use Rattle.leaf.specs.Search.{count, countTo}
 use Rattle.leaf.specs.SearchLaws.{count-most}
 use Rattle.leaf.specs.Tally.{Tells, wrongAt, atMost, mostTo, twins}
 use Rattle.leaf.specs.declared.tally.Tally.{Tally}
-use Rattle.survey.specs.Walk.{State, stopped, moved, firstFault, againBy, bareBy, lowBy, faultBy, faultOf, judged, start, walk, surveyed}
+use Rattle.survey.specs.Walk.{State, stopped, moved, firstFault, againBy, bareBy, lowBy, faultBy, faultOf}
+use Rattle.survey.specs.Walk.{judged, start, walk, surveyed}
 
 -- ---- the fault
 
 pub fault-near : (N next head : ℕ) (twin : Bool) (t : Tally) (st : State) → faultBy N next head twin t st ≡ 0 → next < N
 fault-near N next head twin t st e = by-test
-    (λ b. leb N next ≡ b → firstFault b (againBy st next) (isLocked head) (bareBy st (t .entries)) (not (eqb (t .wrong) 0)) twin (lowBy st (t .low)) ≡ 0 → next < N)
+    (λ b. leb N next ≡ b → firstFault b (againBy st next) (isLocked head) (bareBy st (t .entries)) (not (eqb (t .wrong) 0)) twin
+    (lowBy st (t .low)) ≡ 0 → next < N)
     (leb N next)
     (λ x q z. absurd (omega arith))
     (λ x q z. leb-false N next q)
@@ -37,11 +39,13 @@ fault-far L N st e = by-test
     e
   where
     rest : ℕ
-    rest = firstFault false (againBy st (L .next)) (L .lock) (bareBy st (count L)) (not (eqb (countTo (wrongAt L) (L .size)) 0)) (twins L)
+    rest = firstFault false (againBy st (L .next)) (L .lock) (bareBy st (count L)) (not (eqb (countTo (wrongAt L) (L .size)) 0))
+        (twins L)
         (lowBy st (countTo (atMost L (st .last)) (L .size)))
 
 -- what the code has at hand is what is asked of the leaf
-pub fault-is : (L : Leaf) (N key next head : ℕ) (t : Tally) (st : State) → Tells L (st .last) key t → next ≡ L .next → isLocked head ≡ L .lock
+pub fault-is : (L : Leaf) (N key next head : ℕ) (t : Tally) (st : State) → Tells L (st .last) key t → next ≡ L .next
+    → isLocked head ≡ L .lock
     → faultBy N next head (twins L) t st ≡ faultOf L N st
 unfolding faultOf
 fault-is L N key next head t st tells en el = λ i.
@@ -90,7 +94,8 @@ pick-below false x y N a b = b
 judged-bounded : (w : ℕ → ℕ) (b N key i : ℕ) (st : State) → Bounded N i st → Bounded N (i + 1) (judged (view w b) N key st)
 unfolding judged
 judged-bounded w b N key i st B =
-    by-test (λ x. eqb (faultOf L N st) 0 ≡ x → Bounded N (i + 1) (cond x (moved (L .next) (count L) reached most st) (stopped (faultOf L N st) st)))
+    by-test (λ x. eqb (faultOf L N st) 0 ≡ x
+    → Bounded N (i + 1) (cond x (moved (L .next) (count L) reached most st) (stopped (faultOf L N st) st)))
     (eqb (faultOf L N st) 0)
     (λ x e. record {
       at = near (eqb-true (faultOf L N st) 0 e);
@@ -125,7 +130,8 @@ judged-bounded w b N key i st B =
     near : faultOf L N st ≡ 0 → L .next < N
     near e = fault-far L N st e
 
-pub turn-bounded : (w : ℕ → ℕ) (N key i : ℕ) (st r : State) → Bounded N i st → r ≡ judged (view w (st .at)) N key st → Bounded N (i + 1) r
+pub turn-bounded : (w : ℕ → ℕ) (N key i : ℕ) (st r : State) → Bounded N i st → r ≡ judged (view w (st .at)) N key st
+    → Bounded N (i + 1) r
 turn-bounded w N key i st r B e = rw e (judged-bounded w (st .at) N key i st B)
 
 bounded-more : (N i j : ℕ) (st : State) → i ≤ j → Bounded N i st → Bounded N j st
@@ -145,7 +151,8 @@ walk-bounded w N key (suc n) i st B =
     by-test (λ b. Bounded N (i + suc n) (cond b (walk (view w) N key n (judged (view w (st .at)) N key st)) st)) (eqb (st .stage) 0)
     (λ e.
     let q : i + 1 + n ≤ i + suc n = omega arith in
-    bounded-more N (i + 1 + n) (i + suc n) _ q (walk-bounded w N key n (i + 1) (judged (view w (st .at)) N key st) (judged-bounded w (st .at) N key i st B)))
+    bounded-more N (i + 1 + n) (i + suc n) _ q
+    (walk-bounded w N key n (i + 1) (judged (view w (st .at)) N key st) (judged-bounded w (st .at) N key i st B)))
     (λ e. bounded-more N i (i + suc n) st (omega arith) B)
 
 pub surveyed-bounded : (w : ℕ → ℕ) (N key : ℕ) → 0 < N → Bounded N N (surveyed (view w) N key)

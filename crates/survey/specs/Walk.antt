@@ -88,7 +88,8 @@ faultBy N next head twin t st =
 
 unfoldable pub faultOf : Leaf → ℕ → State → ℕ
 faultOf L N st =
-    firstFault (leb N (L .next)) (againBy st (L .next)) (L .lock) (bareBy st (count L)) (not (eqb (countTo (wrongAt L) (L .size)) 0)) (twins L)
+    firstFault (leb N (L .next)) (againBy st (L .next)) (L .lock) (bareBy st (count L))
+    (not (eqb (countTo (wrongAt L) (L .size)) 0)) (twins L)
     (lowBy st (countTo (atMost L (st .last)) (L .size)))
 
 -- the leaf at hand judged

@@ -124,7 +124,13 @@ module _ (I : ℕ → Leaf) (N key : ℕ) (inside : (b s : ℕ) → Taken (I b) 
       };
       above = λ j u k v h i. elim (ℕ-discrete (st .entries) 0) [
         | yes z ↦ absurd (no-entries xs (sym (n .entries) ∙ z) j u h)
-        | no nz ↦ omega (arith, n .most j u h, i .key-is, none-at-most L (st .last) (L .size) (none nz) (i .at) (inside (st .at) (i .at) (i .taken)) (i .taken))
+        | no nz ↦ omega (
+          arith,
+          n .most j u h,
+          i .key-is,
+          none-at-most L (st .last) (L .size) (none nz) (i .at)
+              (inside (st .at) (i .at) (i .taken)) (i .taken),
+        )
       ];
     }
       where
@@ -139,13 +145,15 @@ module _ (I : ℕ → Leaf) (N key : ℕ) (inside : (b s : ℕ) → Taken (I b) 
       unlocked = s .good .unlocked;
       full = elim (s .good .filled) [
         | inl e ↦ ap (λ (b : Bool). both (eqb (count L) 0) (not b)) (eq-eqb (st .at) 0 e) ∙ both-none (eqb (count L) 0)
-        | inr f ↦ ap (λ (b : Bool). both b (not (eqb (st .at) 0))) (ne-eqb (count L) 0 (λ z. empty-leaf L z (f .at) (inside (st .at) (f .at) (f .taken)) (f .taken)))
+        | inr f ↦ ap (λ (b : Bool). both b (not (eqb (st .at) 0)))
+            (ne-eqb (count L) 0 (λ z. empty-leaf L z (f .at) (inside (st .at) (f .at) (f .taken)) (f .taken)))
       ];
       prints = right-prints L (s .good .right);
       alone = right-twins L (s .good .right);
       above = elim (ℕ-discrete (st .entries) 0) [
         | yes z ↦ ap (λ (b : Bool). both (not b) (not (eqb low 0))) (eq-eqb (st .entries) 0 z)
-        | no nz ↦ ap (λ (b : Bool). both (not (eqb (st .entries) 0)) (not b)) (eq-eqb low 0 (none nz)) ∙ both-none (not (eqb (st .entries) 0))
+        | no nz ↦ ap (λ (b : Bool). both (not (eqb (st .entries) 0)) (not b)) (eq-eqb low 0 (none nz))
+            ∙ both-none (not (eqb (st .entries) 0))
       ];
     }
       where
@@ -153,7 +161,8 @@ module _ (I : ℕ → Leaf) (N key : ℕ) (inside : (b s : ℕ) → Taken (I b) 
         none nz =
             let a = n .attained nz in
             all-above L (st .last) (L .size)
-            (λ t b o. s .above (st .last) (a .0) (L .key t) (L .val t) (a .1) (record { at = t; taken = o; key-is = refl; val-is = refl }))
+            (λ t b o. s .above (st .last) (a .0) (L .key t) (L .val t) (a .1)
+            (record { at = t; taken = o; key-is = refl; val-is = refl }))
 
     -- ---- the notes of one leaf more
 
@@ -175,12 +184,16 @@ module _ (I : ℕ → Leaf) (N key : ℕ) (inside : (b s : ℕ) → Taken (I b) 
 
       further : reached ≡ 0 → Aim I key xs (st .target) (st .before) → Aim I key (xs ++ (st .at ∷ [])) (st .target) (st .before)
       further e (nowhere f z) =
-          nowhere (λ j u h. elim (has-split I j u xs (st .at ∷ []) h) [ inl g ↦ f j u g | inr g ↦ elim g [ inl i ↦ past e j u i | inr x ↦ absurd x ] ]) z
+          nowhere (λ j u h. elim (has-split I j u xs (st .at ∷ []) h)
+          [ inl g ↦ f j u g | inr g ↦ elim g [ inl i ↦ past e j u i | inr x ↦ absurd x ] ]) z
       further e (here ys zs q b r f) =
-          here ys (zs ++ (st .at ∷ [])) (ap (λ (l : List ℕ). l ++ (st .at ∷ [])) q ∙ append-assoc ys (st .target ∷ zs) (st .at ∷ [])) b r
-          (λ j u h. elim (has-split I j u zs (st .at ∷ []) h) [ inl g ↦ f j u g | inr g ↦ elim g [ inl i ↦ past e j u i | inr x ↦ absurd x ] ])
+          here ys (zs ++ (st .at ∷ []))
+          (ap (λ (l : List ℕ). l ++ (st .at ∷ [])) q ∙ append-assoc ys (st .target ∷ zs) (st .at ∷ [])) b r
+          (λ j u h. elim (has-split I j u zs (st .at ∷ []) h)
+          [ inl g ↦ f j u g | inr g ↦ elim g [ inl i ↦ past e j u i | inr x ↦ absurd x ] ])
 
-      aimed : Aim I key (xs ++ (st .at ∷ [])) (cond (eqb reached 0) (st .target) (st .at)) (cond (eqb reached 0) (st .before) (st .prev))
+      aimed : Aim I key (xs ++ (st .at ∷ [])) (cond (eqb reached 0) (st .target) (st .at))
+          (cond (eqb reached 0) (st .before) (st .prev))
       aimed = by-test
           (λ b. eqb reached 0 ≡ b → Aim I key (xs ++ (st .at ∷ [])) (cond b (st .target) (st .at)) (cond b (st .before) (st .prev)))
           (eqb reached 0)
@@ -194,7 +207,10 @@ module _ (I : ℕ → Leaf) (N key : ℕ) (inside : (b s : ℕ) → Taken (I b) 
       upper j u h = elim (ℕ-discrete (count L) 0) [
         | yes z ↦ rw (eq-eqb (count L) 0 z) (elim (has-split I j u xs (st .at ∷ []) h) [
           | inl g ↦ n .most j u g
-          | inr g ↦ elim g [ inl i ↦ absurd (empty-leaf L z (i .at) (inside (st .at) (i .at) (i .taken)) (i .taken)) | inr x ↦ absurd x ]
+          | inr g ↦ elim g [
+            | inl i ↦ absurd (empty-leaf L z (i .at) (inside (st .at) (i .at) (i .taken)) (i .taken))
+            | inr x ↦ absurd x
+          ]
         ])
         | no nz ↦ rw (ne-eqb (count L) 0 nz) (elim (has-split I j u xs (st .at ∷ []) h) [
           | inl g ↦ let f = count-filled L (positive (count L) nz) in
@@ -212,14 +228,19 @@ module _ (I : ℕ → Leaf) (N key : ℕ) (inside : (b s : ℕ) → Taken (I b) 
 
       top : (st .entries + count L ≡ 0 → ⊥) → (u : ℕ) × Has I (xs ++ (st .at ∷ [])) (cond (eqb (count L) 0) (st .last) most) u
       top ne = elim (ℕ-discrete (count L) 0) [
-        | yes z ↦ let a = n .attained (λ e. ne (omega arith)) in rw (eq-eqb (count L) 0 z) (a .0, has-left I (st .last) (a .0) xs (st .at ∷ []) (a .1))
+        | yes z ↦ let a = n .attained (λ e. ne (omega arith)) in
+            rw (eq-eqb (count L) 0 z) (a .0, has-left I (st .last) (a .0) xs (st .at ∷ []) (a .1))
         | no nz ↦ let f = count-filled L (positive (count L) nz) in
             let m = most-is L (L .size) (f .at) (inside (st .at) (f .at) (f .taken)) (f .taken) in
-            rw (ne-eqb (count L) 0 nz) (L .val (m .0), one most (L .val (m .0)) (record { at = m .0; taken = m .2; key-is = m .3; val-is = refl }))
+            rw (ne-eqb (count L) 0 nz)
+            (L .val (m .0), one most (L .val (m .0)) (record { at = m .0; taken = m .2; key-is = m .3; val-is = refl }))
       ]
 
       still : (b : ℕ) → st .met b ≡ true → upd (st .met) (L .next) true b ≡ true
-      still b e = elim (ℕ-discrete b (L .next)) [ yes q ↦ rw q (upd-same (st .met) (L .next) true) | no q ↦ upd-other (st .met) (L .next) true b q ∙ e ]
+      still b e = elim (ℕ-discrete b (L .next)) [
+        | yes q ↦ rw q (upd-same (st .met) (L .next) true)
+        | no q ↦ upd-other (st .met) (L .next) true b q ∙ e
+      ]
 
       pub notes-on : Notes I N key (xs ++ (st .at ∷ [])) (moved (I (st .at) .next) (count (I (st .at))) reached most st)
       notes-on = record {

@@ -50,7 +50,8 @@ module _ (I : ℕ → Leaf) (N key : ℕ) (inside : (b s : ℕ) → Taken (I b) 
     L = I (st .at)
 
     abbrev after : State
-    after = moved (I (st .at) .next) (count (I (st .at))) (countTo (atMost (I (st .at)) key) (I (st .at) .size)) (mostTo (I (st .at)) (I (st .at) .size)) st
+    after = moved (I (st .at) .next) (count (I (st .at))) (countTo (atMost (I (st .at)) key) (I (st .at) .size))
+        (mostTo (I (st .at)) (I (st .at) .size)) st
 
     judged-is : faultOf L N st ≡ 0 → judged L N key st ≡ after
     unfolding judged
@@ -63,7 +64,8 @@ module _ (I : ℕ → Leaf) (N key : ℕ) (inside : (b s : ℕ) → Taken (I b) 
     -- a block that was not met is none of those passed, nor the one at hand
     unmet : (b : ℕ) → st .met b ≡ false → All (λ x. x ≢ b) (xs ++ (st .at ∷ []))
     unmet b e =
-        all-join (λ x. x ≢ b) xs (st .at ∷ []) (all-map (λ x. st .met x ≡ true) (λ x. x ≢ b) (λ x m q. differ (sym m ∙ ap (st .met) q ∙ e)) xs (g .notes .met-all))
+        all-join (λ x. x ≢ b) xs (st .at ∷ [])
+        (all-map (λ x. st .met x ≡ true) (λ x. x ≢ b) (λ x m q. differ (sym m ∙ ap (st .met) q ∙ e)) xs (g .notes .met-all))
         (λ q. differ (sym (g .notes .met-here) ∙ ap (st .met) q ∙ e), tt)
 
     later : (ys : List ℕ) → I (st .at) .next ≢ 0 → Onward (ys ++ (st .at ∷ [])) (I (st .at) .next)
@@ -173,7 +175,8 @@ module _ (I : ℕ → Leaf) (N key : ℕ) (inside : (b s : ℕ) → Taken (I b) 
 
   pub sound-says : 0 < N → (bs : List ℕ) → Sound I N bs → surveyed I N key .stage ≡ 1
   sound-says pos bs S = elim whole [
-    | goes ys g f ↦ let r = walk-begins I N ys (surveyed I N key .at) (g .notes .walked .links) (g .notes .walked .distinct) (g .onward) bs S in
+    | goes ys g f ↦ let r = walk-begins I N ys (surveyed I N key .at) (g .notes .walked .links) (g .notes .walked .distinct)
+        (g .onward) bs S in
         absurd (omega (arith, chain-short I N bs S pos, ap length (r .whole), length-append ys (surveyed I N key .at ∷ r .rest)))
     | ends ys h ↦ h .stage
     | fails f h ↦ absurd (h bs S)

@@ -3,7 +3,8 @@
 use mathlib.Core.Path.{_≡_, refl, sym, ap, _∙_, fun-ext}
 use mathlib.Core.List.{List, [], _∷_}
 use Prim.Native.Nat.{ℕ, zero, suc, _+_, _*_, _/_, _^_, _≤_, _<_}
-use native.Mathlib.Nat.{zero-add, add-suc, le-of-suc-le-suc, not-suc-le-zero, pow-suc, div-div-eq-div-mul, div-add-mod', div-one, div-eq-of-lt}
+use native.Mathlib.Nat.{zero-add, add-suc, le-of-suc-le-suc, not-suc-le-zero, pow-suc, div-div-eq-div-mul}
+use native.Mathlib.Nat.{div-add-mod', div-one, div-eq-of-lt}
 use native.Mathlib.Decide.{ℕ-discrete, decLt}
 use native.Mathlib.Omega.{arith}
 use lib.ListN.{length, getD, set, take, drop, length-set, List·getD-eq-default}
@@ -181,7 +182,8 @@ sum-byte a b c d e f g h ha hb hc hd he hf hg hh =
 pub byte-word : (l : List ℕ) (p k : ℕ) → Bytes l → k < 8 → byteOf (wordAt l p) k ≡ getD l (p + k) 0
 unfolding wordAt
 byte-word l p k h lt =
-    sum-byte _ _ _ _ _ _ _ _ (h p) (h (p + 1)) (h (p + 2)) (h (p + 2 + 1)) (h (p + 4)) (h (p + 4 + 1)) (h (p + 4 + 2)) (h (p + 4 + 2 + 1)) k lt
+    sum-byte _ _ _ _ _ _ _ _ (h p) (h (p + 1)) (h (p + 2)) (h (p + 2 + 1)) (h (p + 4)) (h (p + 4 + 1)) (h (p + 4 + 2))
+    (h (p + 4 + 2 + 1)) k lt
     ∙ by-eight
     (λ k. getD (getD l p 0 ∷ getD l (p + 1) 0 ∷ getD l (p + 2) 0 ∷ getD l (p + 2 + 1) 0 ∷ getD l (p + 4) 0 ∷ getD l (p + 4 + 1) 0
     ∷ getD l (p + 4 + 2) 0

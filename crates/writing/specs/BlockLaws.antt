@@ -21,7 +21,8 @@ unfolding headAt reads
 head-in l b =
     let p : 256 * b ≡ 8 * (32 * b + 0) = omega arith in
     let q : 256 * b + 8 ≡ 8 * (32 * b + 1) = omega arith in
-    ap₂ whole (ap (wordAt l) p ∙ sym (block-at (reads l) b 0 (omega arith))) (ap (wordAt l) q ∙ sym (block-at (reads l) b 1 (omega arith)))
+    ap₂ whole (ap (wordAt l) p ∙ sym (block-at (reads l) b 0 (omega arith)))
+    (ap (wordAt l) q ∙ sym (block-at (reads l) b 1 (omega arith)))
 
 -- the header at the start of a block's part, from a up to e
 pub part-head : (l : List ℕ) (b a e : ℕ) → a ≡ 256 * b → e ≡ a + 256 → headAt (take (e - a) (drop a l)) 0 ≡ headIn (reads l) b

@@ -116,10 +116,12 @@ pub set-told : (b s v : ℕ) (list : List ℕ) → madeAs threeSteps (written (s
 unfolding setList
 set-told b s v list = three-told (valPlace b s) v list
 
-pub del-told : (w : ℕ → ℕ) (p b s : ℕ) (list : List ℕ) → madeAs threeSteps (written (delList w p b s) list) ≡ outcome 0 (delList w p b s) list
+pub del-told : (w : ℕ → ℕ) (p b s : ℕ) (list : List ℕ) → madeAs threeSteps (written (delList w p b s) list) ≡ outcome 0
+    (delList w p b s) list
 unfolding delList unlinkList clearList
 del-told w p b s list =
-    by-test (λ x. madeAs threeSteps (written (cond x (unlinkList w p b) (clearList w b s)) list) ≡ outcome 0 (cond x (unlinkList w p b) (clearList w b s)) list)
+    by-test (λ x. madeAs threeSteps (written (cond x (unlinkList w p b) (clearList w b s)) list) ≡ outcome 0
+    (cond x (unlinkList w p b) (clearList w b s)) list)
     (isAlone w b)
     (λ e. three-told (sibPlace p (altIn (headIn w p))) (view w b .next) list)
     (λ e. three-told (wordPlace b 0) (lowWord (cleared (headIn w b) s)) list)

@@ -164,4 +164,5 @@ module _ (w : ℕ → ℕ) (b c k v : ℕ) (seven : length (movedSlots (view w b
         let z = full-counts in
         let q : fullLines n ≡ linesOf (fullPut w b c k v) = ap fullLines is ∙ z .lines in
         (λ i. madeAs (told-as i) (e i))
-        ∙ told (fullPut w b c k v) list n (fullLines n) (n - (2 * fullLines n - 4)) is q (omega (arith, is, q, z .words, z .more, z .some))
+        ∙ told (fullPut w b c k v) list n (fullLines n) (n - (2 * fullLines n - 4)) is q
+        (omega (arith, is, q, z .words, z .more, z .some))

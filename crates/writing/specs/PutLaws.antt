@@ -28,7 +28,8 @@ use Rattle.index.specs.Reading.{entriesIn, isNone}
 use Rattle.index.specs.SoundTest.{Surveyed, survey-sound, sound-chain, noted-target as around}
 use Rattle.lists.specs.Lists.{headIn, putAt}
 use Rattle.lists.specs.FullLists.{fullPut, putInto, putList}
-use Rattle.writing.specs.Writing.{targetOf, placeOf, isAmong, freeOf, Outcome, outcome, madeAs, isMissing, isFull, blockOr0, putOf}
+use Rattle.writing.specs.Writing.{targetOf, placeOf, isAmong, freeOf, Outcome, outcome, madeAs, isMissing}
+use Rattle.writing.specs.Writing.{isFull, blockOr0, putOf}
 use Rattle.writing.specs.ChangeLaws.{noted-value, bad-image, short-list, unsound, accepted}
 use Rattle.writing.specs.declared.Made.the-variants.{BadImage, ShortList, Unsound, Present, Full}
 
@@ -63,7 +64,8 @@ module _ (l : List ℕ) (k : ℕ) (fine : badImage (length l) ≡ false) (e : su
       by-test (λ t. isAmong b (s .chain) ≡ t → surveyed (leaves l) (blocks l) k .met b ≡ t) (isAmong b (s .chain))
       (λ u q. among-met (surveyed (leaves l) (blocks l) k .met) b (s .chain) (s .notes .met-all) q)
       (λ u q. not-so (surveyed (leaves l) (blocks l) k .met b) (λ m.
-      s .notes .met-only b m (λ z. differ (sym (first-among (s .chain) (s .sound .starts)) ∙ ap (λ (c : ℕ). isAmong c (s .chain)) (sym (z ∙ s .ended)) ∙ q))
+      s .notes .met-only b m (λ z. differ
+      (sym (first-among (s .chain) (s .sound .starts)) ∙ ap (λ (c : ℕ). isAmong c (s .chain)) (sym (z ∙ s .ended)) ∙ q))
       (not-among b (s .chain) q)))
       refl
     where
@@ -73,7 +75,8 @@ module _ (l : List ℕ) (k : ℕ) (fine : badImage (length l) ≡ false) (e : su
   pub noted-free : lowest (λ b. not (surveyed (leaves l) (blocks l) k .met b)) (blocks l) 0 ≡ freeOf l
   noted-free =
       let s = survey-sound l k fine e in
-      lowest-same (λ b. not (surveyed (leaves l) (blocks l) k .met b)) (λ b. not (isAmong b (s .chain))) (blocks l) 0 (λ b x y. ap not (met-among b))
+      lowest-same (λ b. not (surveyed (leaves l) (blocks l) k .met b)) (λ b. not (isAmong b (s .chain))) (blocks l) 0
+      (λ b x y. ap not (met-among b))
       ∙ ap (λ (bs : List ℕ). lowest (λ b. not (isAmong b bs)) (blocks l) 0) (sym (sound-chain l (s .chain) fine (s .sound)))
 
   -- the target leaf is right, and was met
@@ -102,7 +105,8 @@ full-vacant w b = by (lowestVacant (occIn (headIn w b)) 14) refl
     by (At s) e =
         let r = vacant-at (occIn (headIn w b)) 14 s e in
         ne-eqb (countTo (occIn (headIn w b)) 14) 14 (λ q. omega (arith, count-less (occIn (headIn w b)) 14 s (r .0) (r .1)))
-    by Missing e = eq-eqb (countTo (occIn (headIn w b)) 14) 14 (count-all (occIn (headIn w b)) 14 (vacant-none (occIn (headIn w b)) 14 e))
+    by Missing e =
+        eq-eqb (countTo (occIn (headIn w b)) 14) 14 (count-all (occIn (headIn w b)) 14 (vacant-none (occIn (headIn w b)) 14 e))
 
 -- a block that is out of the set is none that is in it
 pub out-apart : (n b c : ℕ) → isIn n b ≡ true → not (isIn n c) ≡ true → b ≢ c
@@ -144,7 +148,8 @@ module _ (l list : List ℕ) (k v : ℕ) where
       put-judged e =
           by (placeOf l k) (lowestVacant (occIn (headIn (reads l) (targetOf l k))) 14) (freeOf l)
           ∙ (λ i. outcome
-          (answer ((4, not (isNone (noted-value l k fine e i))) ∷ (6, both (sym (full-vacant (reads l) (targetOf l k)) i) (isMissing (freeOf l))) ∷ []))
+          (answer ((4, not (isNone (noted-value l k fine e i))) ∷
+          (6, both (sym (full-vacant (reads l) (targetOf l k)) i) (isMissing (freeOf l))) ∷ []))
           made list)
           ∙ accepted l list k rows made fine room e
         where

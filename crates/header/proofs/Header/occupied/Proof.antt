@@ -8,4 +8,5 @@ pub occupied-spec : {M : Type 1} → statement M
 occupied-spec =
     tie.close
     (tie.spec (λ c κs. search needs)
-    (λ c. let a = c .before .args in rw (c .get .ensures) (occupied-low (a .self .low) (a .self .high) (a .s) (omega arith) (omega arith))))
+    (λ c. let a = c .before .args in
+    rw (c .get .ensures) (occupied-low (a .self .low) (a .self .high) (a .s) (omega arith) (omega arith))))

@@ -39,7 +39,8 @@ pub find-spec : {M : Type 1} → statement M
 find-spec =
     tie.close
     (tie.spec (λ c κs. search needs)
-    (λ c. let a = c .before .before .before .args in find-bad (now (a .image)) (a .key) (sym (c .before .bad-image .ensures) ∙ c .if1 .taken))
+    (λ c. let a = c .before .before .before .args in
+    find-bad (now (a .image)) (a .key) (sym (c .before .bad-image .ensures) ∙ c .if1 .taken))
     (λ c κs. long-enough (now (c .before .before .before .args .image)) (sym (c .before .bad-image .ensures) ∙ c .if1 .left))
     (λ c. let s = c .before .before in let b = s .before .before in let a = b .before .before .args in
     find-unsound (now (a .image)) (a .key) (sym (b .bad-image .ensures) ∙ s .before .if1 .left)

@@ -16,4 +16,5 @@ find-in-spec =
     (λ c κs. search needs)
     (λ c. let a = c .before .before .before .args in
     c .find-leaf .ensures
-    ∙ ap (λ (L : Leaf). foundAt L (slotOf L (a .key))) (part-leaf (now (a .image)) (a .block) (256 * a .block) (256 * a .block + 256) refl refl)))
+    ∙ ap (λ (L : Leaf). foundAt L (slotOf L (a .key)))
+    (part-leaf (now (a .image)) (a .block) (256 * a .block) (256 * a .block + 256) refl refl)))

@@ -14,8 +14,11 @@ value-at-requires : tie.Need-value-at-requires
 unfolding leafIn
 value-at-requires c κs =
     let f = c .before .before .before in
-    let a = f .before .before .args in
-    (omega arith, (slot-at (leafIn (now (a .leaf))) (a .key) (c .before .s .given .0 .0) (sym (f .find-slot .ensures) ∙ c .before .s .given .1)) .0)
+    let a = f .before .before .args in (
+      omega arith,
+      (slot-at (leafIn (now (a .leaf))) (a .key) (c .before .s .given .0 .0)
+          (sym (f .find-slot .ensures) ∙ c .before .s .given .1)) .0,
+    )
 
 pub find-leaf-spec : {M : Type 1} → statement M
 find-leaf-spec =

@@ -40,8 +40,11 @@ loop-holds c =
 list-block-requires : tie.Need-list-block-requires Inv-loop μ-loop
 list-block-requires c κs =
     let k = c .before .before .before in
-    let l = now (k .before .before .before .before .args .image) in
-    (omega (arith, near-here (leaves l) (blocks l) (k .loop .i) (k .loop .block) (omega arith) (k .loop .inv .3)), omega arith, omega arith)
+    let l = now (k .before .before .before .before .args .image) in (
+      omega (arith, near-here (leaves l) (blocks l) (k .loop .i) (k .loop .block) (omega arith) (k .loop .inv .3)),
+      omega arith,
+      omega arith,
+    )
 
 next-block-requires : tie.Need-next-block-requires Inv-loop μ-loop
 next-block-requires c κs =

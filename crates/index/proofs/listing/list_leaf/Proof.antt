@@ -29,14 +29,16 @@ loop-holds c =
       omega arith,
       refl,
       refl,
-      ap (λ (es : List Entry). fill (a .room) es (buffers (a .used) (now (a .keys)) (now (a .values)))) (leaf-begin (now (a .leaf)) (a .from)),
+      ap (λ (es : List Entry). fill (a .room) es (buffers (a .used) (now (a .keys)) (now (a .values))))
+          (leaf-begin (now (a .leaf)) (a .from)),
     )
 
 returns : tie.Need-returns Inv-loop μ-loop
 returns c =
     let k = c .before .before in
     let a = k .before .before .before .before .args in
-    leaf-full (leafIn (now (a .leaf))) (a .room) (k .loop .i) (k .loop .lo) (k .loop .n) (k .loop .keys) (k .loop .values) _ (k .loop .inv .3)
+    leaf-full (leafIn (now (a .leaf))) (a .room) (k .loop .i) (k .loop .lo) (k .loop .n) (k .loop .keys) (k .loop .values) _
+    (k .loop .inv .3)
     (c .if1 .taken)
 
 returns-2 : tie.Need-returns-2 Inv-loop μ-loop
@@ -44,7 +46,8 @@ returns-2 c =
     let f = c .before .before in
     let k = f .before .before .before in
     let a = k .before .before .before .before .args in
-    leaf-none (leafIn (now (a .leaf))) (a .room) (k .loop .i) (k .loop .lo) (k .loop .n) (k .loop .keys) (k .loop .values) _ (k .loop .inv .3)
+    leaf-none (leafIn (now (a .leaf))) (a .room) (k .loop .i) (k .loop .lo) (k .loop .n) (k .loop .keys) (k .loop .values) _
+    (k .loop .inv .3)
     (sym (f .least-from .ensures .0) ∙ c .enum-told .given .1)
 
 key-at-requires : tie.Need-key-at-requires Inv-loop μ-loop
@@ -96,7 +99,8 @@ returns-4 : tie.Need-returns-4 Inv-loop μ-loop
 returns-4 c =
     let k = c .before in
     let a = k .before .before .before .before .args in
-    leaf-end (leafIn (now (a .leaf))) (a .room) (k .loop .i) (k .loop .lo) (k .loop .n) (k .loop .keys) (k .loop .values) _ (k .loop .inv .3)
+    leaf-end (leafIn (now (a .leaf))) (a .room) (k .loop .i) (k .loop .lo) (k .loop .n) (k .loop .keys) (k .loop .values) _
+    (k .loop .inv .3)
     (omega arith)
 
 pub list-leaf-spec : {M : Type 1} → statement M

@@ -53,7 +53,8 @@ returns c =
     let d = c .before .before in
     let k = d .before .before in
     let l = now (k .before .before .before .before .args .image) in
-    lead-ends (leaves l) (blocks l) (k .loop .i) (k .loop .block) (k .loop .smallest) (k .loop .numbers) _ (k .loop .inv .4) (omega arith)
+    lead-ends (leaves l) (blocks l) (k .loop .i) (k .loop .block) (k .loop .smallest) (k .loop .numbers) _ (k .loop .inv .4)
+    (omega arith)
     (d .smallest-in .result) (d .smallest-in .ensures) (c .before .next-block .result) (c .before .next-block .ensures) (c .if1 .taken)
 
 loop-again : tie.Need-loop-again Inv-loop μ-loop
@@ -68,14 +69,16 @@ loop-again c =
       near-next (leaves l) (blocks l) (k .loop .i) (k .loop .block) (c .before .next-block .result) t (c .before .next-block .ensures)
           (c .if1 .left) (k .loop .inv .3),
       lead-next (leaves l) (blocks l) (k .loop .i) (k .loop .block) (k .loop .smallest) (k .loop .numbers) _ (k .loop .inv .4) t
-          (d .smallest-in .result) (d .smallest-in .ensures) (c .before .next-block .result) (c .before .next-block .ensures) (c .if1 .left),
+          (d .smallest-in .result) (d .smallest-in .ensures) (c .before .next-block .result) (c .before .next-block .ensures)
+          (c .if1 .left),
     )
 
 returns-2 : tie.Need-returns-2 Inv-loop μ-loop
 returns-2 c =
     let k = c .before in
     let l = now (k .before .before .before .before .args .image) in
-    lead-done (leaves l) (blocks l) (k .loop .i) (k .loop .block) (k .loop .smallest) (k .loop .numbers) _ (k .loop .inv .4) (omega arith)
+    lead-done (leaves l) (blocks l) (k .loop .i) (k .loop .block) (k .loop .smallest) (k .loop .numbers) _ (k .loop .inv .4)
+    (omega arith)
 
 pub lead-chain-spec : {M : Type 1} → statement M
 lead-chain-spec =

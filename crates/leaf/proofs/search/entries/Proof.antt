@@ -40,4 +40,5 @@ returns c =
 pub entries-spec : {M : Type 1} → statement M
 entries-spec =
     tie.close
-    (tie.spec Inv-loop μ-loop loop-holds (λ c κs. search needs) (λ c. omega arith) (λ c. omega arith) (λ c. omega arith) loop-again returns)
+    (tie.spec Inv-loop μ-loop loop-holds (λ c κs. search needs) (λ c. omega arith) (λ c. omega arith)
+    (λ c. omega arith) loop-again returns)

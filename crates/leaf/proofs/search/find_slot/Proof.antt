@@ -23,13 +23,15 @@ find-slot-spec =
     (λ c. let a = c .before .before .before .args in (omega arith, slot-whole (now (a .leaf)) (a .key)))
     (λ c κs. search needs)
     (λ c. let k = c .before .before .before in let a = k .before .before .before .before .args in
-    sym (lowest-found (holdsKey (leafIn (now (a .leaf))) (a .key)) 14 (k .loop .s) (omega arith) (sym (c .before .holds .ensures) ∙ c .if1 .taken))
+    sym (lowest-found (holdsKey (leafIn (now (a .leaf))) (a .key)) 14 (k .loop .s) (omega arith)
+    (sym (c .before .holds .ensures) ∙ c .if1 .taken))
     ∙ k .loop .inv .1)
     (λ c. omega arith)
     (λ c. omega arith)
     (λ c. let k = c .before .before .before in let a = k .before .before .before .before .args in (
       omega arith,
-      sym (lowest-passed (holdsKey (leafIn (now (a .leaf))) (a .key)) 14 (k .loop .s) (omega arith) (sym (c .before .holds .ensures) ∙ c .if1 .left))
+      sym (lowest-passed (holdsKey (leafIn (now (a .leaf))) (a .key)) 14 (k .loop .s) (omega arith)
+          (sym (c .before .holds .ensures) ∙ c .if1 .left))
           ∙ k .loop .inv .1,
     ))
     (λ c. let k = c .before in let a = k .before .before .before .before .args in

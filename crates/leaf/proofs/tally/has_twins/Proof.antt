@@ -33,6 +33,7 @@ has-twins-spec =
     (λ c. let k = c .before .before .before in (
       omega arith,
       rw (add-one (k .loop .s))
-          (some-next (twinAt (leafIn (now (k .before .before .args .leaf)))) (k .loop .s) (k .loop .inv .1) (sym (c .before .is-twin .ensures) ∙ c .if1 .left)),
+          (some-next (twinAt (leafIn (now (k .before .before .args .leaf)))) (k .loop .s) (k .loop .inv .1)
+          (sym (c .before .is-twin .ensures) ∙ c .if1 .left)),
     ))
     (λ c. let k = c .before in twins-none _ (k .loop .s) (omega arith) (k .loop .inv .1)))

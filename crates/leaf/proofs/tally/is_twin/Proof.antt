@@ -37,7 +37,8 @@ is-twin-spec =
     (λ c. let k = c .before .before .before in let st = k .before .before .before .before in (
       omega arith,
       rw (add-one (k .loop .t))
-          (some-next (shares (leafIn (now (st .args .leaf))) (st .args .s)) (k .loop .t) (k .loop .inv .1) (sym (c .before .same-key .ensures) ∙ c .if2 .left)),
+          (some-next (shares (leafIn (now (st .args .leaf))) (st .args .s)) (k .loop .t) (k .loop .inv .1)
+          (sym (c .before .same-key .ensures) ∙ c .if2 .left)),
     ))
     (λ c. let k = c .before in let o = k .before .before in let st = o .before .before in
     let e : k .loop .t ≡ st .args .s = omega arith in

@@ -31,7 +31,8 @@ returns c =
           (p .before .key-at .ensures)
           (m .stamp .ensures .1)
           (c .note .ensures),
-      stamped-taken (leafIn (now (a .leaf))) (a .number) (a .s) (now (a .stamps)) _ (p .print-at .result) (st .pre .5) (p .print-at .ensures)
+      stamped-taken (leafIn (now (a .leaf))) (a .number) (a .s) (now (a .stamps)) _ (p .print-at .result) (st .pre .5)
+          (p .print-at .ensures)
           (omega arith)
           (m .stamp .ensures .0),
       ap length (m .stamp .ensures .0) ∙ length-set (now (a .stamps)) (p .print-at .result) (a .number),

@@ -19,7 +19,8 @@ returns-2 c =
     let g = b .before .before in
     let a = g .before .before .before .args in
     c .first-fault .ensures
-    ∙ (λ i. firstFault (sym (lt-leb (a .n) (a .next) (omega arith)) i) (g .is-again .ensures i) (b .before .locked .ensures i) (b .is-bare .ensures i)
+    ∙ (λ i. firstFault (sym (lt-leb (a .n) (a .next) (omega arith)) i) (g .is-again .ensures i) (b .before .locked .ensures i)
+    (b .is-bare .ensures i)
     (not (eqb (a .t .wrong) 0))
     (t .is-twinned .ensures i)
     (l .is-low .ensures i))

@@ -17,7 +17,8 @@ onward-requires c κs =
     let t = f .before .before .before in
     let n = t .before .before .before in
     let a = n .before .before .before .before .args in
-    let near = fault-near (a .n) (n .next-of .result) (bitsOf (n .before .read .result)) (twins (leafIn (now (a .leaf)))) (t .tally-of .result)
+    let near = fault-near (a .n) (n .next-of .result) (bitsOf (n .before .read .result)) (twins (leafIn (now (a .leaf))))
+    (t .tally-of .result)
     (stateOf (a .w)) (sym (f .fault-of .ensures) ∙ c .if1 .taken) in
     (omega arith, omega arith, omega arith, few-entries (now (a .leaf)) _ _ (t .tally-of .result) (t .tally-of .ensures .0))
 
@@ -31,7 +32,8 @@ returns c =
       c .onward .ensures
           ∙ judged-on L (a .n) (a .key) (stateOf (a .w)) (f .fault-of .result)
           (f .fault-of .ensures
-          ∙ fault-is L (a .n) (a .key) (n .next-of .result) (bitsOf (n .before .read .result)) (t .tally-of .result) (stateOf (a .w)) (t .tally-of .ensures .0)
+          ∙ fault-is L (a .n) (a .key) (n .next-of .result) (bitsOf (n .before .read .result)) (t .tally-of .result)
+          (stateOf (a .w)) (t .tally-of .ensures .0)
           (n .next-of .ensures)
           (in-lock (now (a .leaf)) _ (n .before .read .ensures)))
           (n .next-of .result)
@@ -52,7 +54,8 @@ returns-2 c =
       c .stop .ensures
           ∙ judged-stop L (a .n) (a .key) (stateOf (a .w)) (f .fault-of .result)
           (f .fault-of .ensures
-          ∙ fault-is L (a .n) (a .key) (n .next-of .result) (bitsOf (n .before .read .result)) (t .tally-of .result) (stateOf (a .w)) (t .tally-of .ensures .0)
+          ∙ fault-is L (a .n) (a .key) (n .next-of .result) (bitsOf (n .before .read .result)) (t .tally-of .result)
+          (stateOf (a .w)) (t .tally-of .ensures .0)
           (n .next-of .ensures)
           (in-lock (now (a .leaf)) _ (n .before .read .ensures)))
           (c .before .if1 .left),

@@ -46,7 +46,8 @@ loop-again c =
       omega arith,
       t .turn .ensures .1 ∙ k .loop .inv .1,
       turn-bounded w N (a .key) (k .loop .i) (stateOf (k .loop .w)) (stateOf (t .turn .result)) (k .loop .inv .2) (t .turn .ensures .0),
-      walk-turn (view w) N (a .key) (k .loop .i) (stateOf (k .loop .w)) (stateOf (t .turn .result)) (surveyed (view w) N (a .key)) (omega arith)
+      walk-turn (view w) N (a .key) (k .loop .i) (stateOf (k .loop .w)) (stateOf (t .turn .result))
+          (surveyed (view w) N (a .key)) (omega arith)
           (t .before .before .if1 .left)
           (t .turn .ensures .0)
           (k .loop .inv .3),
@@ -66,5 +67,6 @@ walk-along-spec =
     loop-again
     (λ c. c .before .loop .inv .1)
     (λ c. let k = c .before in let a = k .before .before .before .before .args in
-    sym (walk-end (view (reads (now (a .image)))) (length (now (a .image)) / 256) (a .key) (k .loop .i) (stateOf (k .loop .w)) (omega arith))
+    sym (walk-end (view (reads (now (a .image)))) (length (now (a .image)) / 256) (a .key) (k .loop .i) (stateOf (k .loop .w))
+    (omega arith))
     ∙ k .loop .inv .3))

@@ -16,7 +16,8 @@ returns c =
     let a = c .before .before .before .args in
     let l = now (a .image) in
     let e : c .find-slot .result ≡ slotOf (leaves l (a .block)) (a .key) =
-    c .find-slot .ensures ∙ ap (λ (L : Leaf). slotOf L (a .key)) (part-leaf l (a .block) (256 * a .block) (256 * a .block + 256) refl refl) in
+    c .find-slot .ensures ∙ ap (λ (L : Leaf). slotOf L (a .key))
+    (part-leaf l (a .block) (256 * a .block) (256 * a .block + 256) refl refl) in
     (e, slot-within (reads l) (a .block) (a .key) (c .find-slot .result) e)
 
 pub slot-in-spec : {M : Type 1} → statement M

@@ -52,14 +52,16 @@ del-spec =
     tie.close
     (tie.spec (λ c κs. search needs)
     (λ c. let b = c .before in let a = b .before .before .before .args in let l = now (a .image) in
-    change-bad l (now (a .list)) (a .key) (λ x. delList (reads l) (beforeOf l (a .key)) (targetOf l (a .key)) x) (sym (b .bad-image .ensures) ∙ c .if1 .taken))
+    change-bad l (now (a .list)) (a .key) (λ x. delList (reads l) (beforeOf l (a .key)) (targetOf l (a .key)) x)
+    (sym (b .bad-image .ensures) ∙ c .if1 .taken))
     (λ c. let b = c .before .before in let a = b .before .before .before .args in let l = now (a .image) in
     change-short l (now (a .list)) (a .key) (λ x. delList (reads l) (beforeOf l (a .key)) (targetOf l (a .key)) x)
     (sym (b .bad-image .ensures) ∙ c .before .if1 .left)
     (omega arith))
     (λ c κs. let b = c .before .before in
     long-enough (now (b .before .before .before .args .image)) (sym (b .bad-image .ensures) ∙ c .before .if1 .left))
-    (λ c. let s = c .before .before in let b = s .before .before .before in let a = b .before .before .before .args in let l = now (a .image) in
+    (λ c. let s = c .before .before in let b = s .before .before .before in let a = b .before .before .before .args in
+    let l = now (a .image) in
     change-unsound l (now (a .list)) (a .key) (λ x. delList (reads l) (beforeOf l (a .key)) (targetOf l (a .key)) x)
     (sym (b .bad-image .ensures) ∙ s .before .before .if1 .left)
     (omega arith)

@@ -12,7 +12,8 @@ use Rattle.writing.proofs.change.del_in.Tie as tie
 
 write-del-requires : tie.Need-write-del-requires
 write-del-requires c κs =
-    let s = c .before .before in (omega arith, omega arith, omega arith, omega arith, rw (s .s .given .1) at (s .before .before .slot-in .ensures .1), omega arith)
+    let s = c .before .before in
+    (omega arith, omega arith, omega arith, omega arith, rw (s .s .given .1) at (s .before .before .slot-in .ensures .1), omega arith)
 
 returns : tie.Need-returns
 returns c =
@@ -30,7 +31,8 @@ returns-2 c =
     let p = c .before .before in
     let a = p .before .before .before .args in
     let r = reads (now (a .image)) in
-    ap (λ (x : Slot). bySlot x (λ t. delList r (a .before) (a .block) t) (now (a .list))) (sym (c .enum-told .given .1) ∙ p .slot-in .ensures .0)
+    ap (λ (x : Slot). bySlot x (λ t. delList r (a .before) (a .block) t) (now (a .list)))
+    (sym (c .enum-told .given .1) ∙ p .slot-in .ensures .0)
 
 pub del-in-spec : {M : Type 1} → statement M
 del-in-spec =

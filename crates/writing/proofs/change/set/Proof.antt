@@ -20,8 +20,11 @@ set-in-requires c κs =
     let a = b .before .before .before .args in
     let fine = sym (b .bad-image .ensures) ∙ s .before .before .if1 .left in
     let t = ap (λ (st : State). st .target) (s .survey .ensures) in
-    let n = (noted-bounds (now (a .image)) (a .key) fine) .target in
-    (block-inside (now (a .image)) (s .survey .result .target) fine (rw t n), omega (arith, t, n, long-enough (now (a .image)) fine .1), omega arith)
+    let n = (noted-bounds (now (a .image)) (a .key) fine) .target in (
+      block-inside (now (a .image)) (s .survey .result .target) fine (rw t n),
+      omega (arith, t, n, long-enough (now (a .image)) fine .1),
+      omega arith,
+    )
 
 returns-4 : tie.Need-returns-4
 unfolding setOf
@@ -44,14 +47,16 @@ set-spec =
     tie.close
     (tie.spec (λ c κs. search needs)
     (λ c. let b = c .before in let a = b .before .before .before .args in let l = now (a .image) in
-    change-bad l (now (a .list)) (a .key) (λ x. setList (targetOf l (a .key)) x (a .value)) (sym (b .bad-image .ensures) ∙ c .if1 .taken))
+    change-bad l (now (a .list)) (a .key) (λ x. setList (targetOf l (a .key)) x (a .value))
+    (sym (b .bad-image .ensures) ∙ c .if1 .taken))
     (λ c. let b = c .before .before in let a = b .before .before .before .args in let l = now (a .image) in
     change-short l (now (a .list)) (a .key) (λ x. setList (targetOf l (a .key)) x (a .value))
     (sym (b .bad-image .ensures) ∙ c .before .if1 .left)
     (omega arith))
     (λ c κs. let b = c .before .before in
     long-enough (now (b .before .before .before .args .image)) (sym (b .bad-image .ensures) ∙ c .before .if1 .left))
-    (λ c. let s = c .before .before in let b = s .before .before .before in let a = b .before .before .before .args in let l = now (a .image) in
+    (λ c. let s = c .before .before in let b = s .before .before .before in let a = b .before .before .before .args in
+    let l = now (a .image) in
     change-unsound l (now (a .list)) (a .key) (λ x. setList (targetOf l (a .key)) x (a .value))
     (sym (b .bad-image .ensures) ∙ s .before .before .if1 .left)
     (omega arith)

@@ -27,7 +27,8 @@ returns-2 : tie.Need-returns-2
 returns-2 c =
     let p = c .before .before in
     let a = p .before .before .before .args in
-    ap (λ (x : Slot). bySlot x (λ t. setList (a .block) t (a .value)) (now (a .list))) (sym (c .enum-told .given .1) ∙ p .slot-in .ensures .0)
+    ap (λ (x : Slot). bySlot x (λ t. setList (a .block) t (a .value)) (now (a .list)))
+    (sym (c .enum-told .given .1) ∙ p .slot-in .ensures .0)
 
 pub set-in-spec : {M : Type 1} → statement M
 set-in-spec =

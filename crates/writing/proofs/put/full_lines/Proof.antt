@@ -12,5 +12,8 @@ full-lines-spec =
     (tie.spec
     (λ c. search needs) (λ c κs. search needs) (λ c. search needs)
     (λ c. (rw (eq-eqb (c .before .args .n) 42 (c .if1 .taken)), omega arith, omega arith))
-    (λ c. let b = c .before in
-    (rw (ne-eqb (b .before .args .n) 42 (b .if1 .left)) (ap (λ (x : ℕ). 6 + x) (c .plain-lines .ensures .0)), omega arith, omega arith)))
+    (λ c. let b = c .before in (
+      rw (ne-eqb (b .before .args .n) 42 (b .if1 .left)) (ap (λ (x : ℕ). 6 + x) (c .plain-lines .ensures .0)),
+      omega arith,
+      omega arith,
+    )))

@@ -46,14 +46,16 @@ returns-4 c =
     let fine = sym (b .bad-image .ensures) ∙ s .before .before .if1 .left in
     let e = sym (ap (λ (st : State). st .stage) (s .survey .ensures)) ∙ m .before .before .if3 .left in
     let by : ℕ → (ℕ → Bool) → Outcome = λ t met.
-    putBy (slotOf (leaves l t) (a .key)) (lowestVacant (occIn (headIn (reads l) t)) 14) (lowest (λ x. not (met x)) (blocks l) 0) (reads l) t (a .key)
+    putBy (slotOf (leaves l t) (a .key)) (lowestVacant (occIn (headIn (reads l) t)) 14) (lowest (λ x. not (met x)) (blocks l) 0)
+    (reads l) t (a .key)
     (a .value)
     list in
     m .put-in .ensures
     ∙ ap (λ (st : State). by (st .target) (st .met)) (s .survey .ensures)
     ∙ (λ i.
     let t = noted-target l (a .key) fine e i in
-    putBy (slotOf (leaves l t) (a .key)) (lowestVacant (occIn (headIn (reads l) t)) 14) (noted-free l (a .key) fine e i) (reads l) t (a .key)
+    putBy (slotOf (leaves l t) (a .key)) (lowestVacant (occIn (headIn (reads l) t)) 14) (noted-free l (a .key) fine e i)
+    (reads l) t (a .key)
     (a .value)
     list)
     ∙ put-judged l list (a .key) (a .value) fine (omega arith) e

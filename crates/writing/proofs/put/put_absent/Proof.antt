@@ -58,7 +58,8 @@ returns c =
     let l = now (a .image) in
     let free = lowest (λ b. not (isIn (setOf (a .met)) b)) (blocks l) 0 in
     y .put-plain .ensures
-    ∙ ap (λ (h : ℕ). outcome 0 (putAt h (leaves l (a .block)) (a .block) (x .s .given .0 .0) (a .key) (a .value)) (now (a .list))) (s .pre .4)
+    ∙ ap (λ (h : ℕ). outcome 0 (putAt h (leaves l (a .block)) (a .block) (x .s .given .0 .0) (a .key) (a .value))
+    (now (a .list))) (s .pre .4)
     ∙ ap (λ (z : Slot). putBy Missing z free (reads l) (a .block) (a .key) (a .value) (now (a .list)))
     (sym (x .s .given .1) ∙ p .lowest-vacant .ensures ∙ ap (λ (h : ℕ). lowestVacant (occIn h) 14) (s .pre .4))
 

@@ -28,9 +28,11 @@ full-made-requires c κs =
     let s = k .before in
     let a = s .args in
     let l = now (a .image) in
-    full-some (reads l) (a .block) (a .new) (a .key) (a .value) (seven-move l (a .block) (s .pre .6) (s .pre .7)) (p .write-full-put .result)
+    full-some (reads l) (a .block) (a .new) (a .key) (a .value) (seven-move l (a .block) (s .pre .6) (s .pre .7))
+    (p .write-full-put .result)
     (p .write-full-put .ensures (reads l)
-    (has-full-leaf l (a .block) (s .pre .6) (s .pre .7) (bitsOf (a .head)) (s .pre .4) (a .new) (λ i. omega (arith, k .shared-slice-known .given i)) (s .pre .5))
+    (has-full-leaf l (a .block) (s .pre .6) (s .pre .7) (bitsOf (a .head)) (s .pre .4) (a .new)
+    (λ i. omega (arith, k .shared-slice-known .given i)) (s .pre .5))
     .1)
 
 returns : tie.Need-returns
@@ -41,8 +43,10 @@ returns c =
     let a = s .args in
     let l = now (a .image) in
     let y = p .write-full-put .ensures (reads l)
-    (has-full-leaf l (a .block) (s .pre .6) (s .pre .7) (bitsOf (a .head)) (s .pre .4) (a .new) (λ i. omega (arith, k .shared-slice-known .given i)) (s .pre .5)) in
-    full-told (reads l) (a .block) (a .new) (a .key) (a .value) (seven-move l (a .block) (s .pre .6) (s .pre .7)) (p .write-full-put .result) (y .1)
+    (has-full-leaf l (a .block) (s .pre .6) (s .pre .7) (bitsOf (a .head)) (s .pre .4) (a .new)
+    (λ i. omega (arith, k .shared-slice-known .given i)) (s .pre .5)) in
+    full-told (reads l) (a .block) (a .new) (a .key) (a .value) (seven-move l (a .block) (s .pre .6) (s .pre .7))
+    (p .write-full-put .result) (y .1)
     (c .full-made .result) (now (a .list)) _ (y .0) (c .full-made .ensures)
 
 pub put-full-spec : {M : Type 1} → statement M

@@ -23,4 +23,5 @@ pub put-plain-spec : {M : Type 1} → statement M
 put-plain-spec =
     tie.close
     (tie.spec (λ c. search needs) (λ c. search needs) (λ c. search needs) (λ c. search needs) (λ c. search needs)
-    (λ c κs. search needs) (λ c κs. plain-some _ _ _ _ _ _ _ _ _ (c .before .before .append-put-at .ensures)) (λ c. search needs) returns)
+    (λ c κs. search needs) (λ c κs. plain-some _ _ _ _ _ _ _ _ _ (c .before .before .append-put-at .ensures))
+    (λ c. search needs) returns)
