@@ -5,4 +5,6 @@ pub mod Carried
 pub mod Accepted
 pub mod Demand2
 pub mod Demand3
+pub mod Computing
+pub mod Cases
 pub mod Tight

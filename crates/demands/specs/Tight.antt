@@ -6,30 +6,13 @@ use mathlib.Core.List.{List, [], _∷_}
 use Prim.Native.Nat.{ℕ, zero, suc, _+_, _*_, _≤_}
 use native.Mathlib.Omega.{arith}
 use lib.ListN.{replicate}
-use Rattle.words.specs.Words.{reads, wordAt, storeAt}
-use Rattle.header.specs.Fields.{field, patched}
-use Rattle.header.specs.Header.{altIn, fingerprintIn, fingerprintOf, isLocked, isOccupied, marked, xorOfBytes, cleared, flipped}
-use Rattle.leaf.specs.Leaf.{block, occIn, view}
-use Rattle.leaf.specs.Search.{count, countTo, holdsKey, lowest, lowestVacant, slotOf, closest, leastFrom}
-use Rattle.leaf.specs.Tally.{atMost, mostTo, shares, someTo, twinAt, twins, wrongAt}
-use Rattle.steps.specs.Model.{isSettled, lineWrites}
-use Rattle.steps.specs.Encoding.{decode, written, stepAt}
-use Rattle.steps.specs.Refusals.{badImage}
-use Rattle.machine.specs.Calls.{badArrivals, badList, cutOf, runOf}
-use Rattle.survey.specs.Walk.{faultOf, judged, surveyed, walk}
-use Rattle.image.specs.Map.{lookup}
-use Rattle.image.specs.Order.{slotsFrom, slotsOf}
-use Rattle.image.specs.Entries.{entriesOf, listOf}
-use Rattle.verdict.specs.Place.{targetFrom}
-use Rattle.index.specs.Reading.{chainFrom, chainOf, entriesIn, isSound}
-use Rattle.lists.specs.Lists.{nearPut, putAt, farPut, filledHead, copiesBeside, plainPut}
-use Rattle.image.specs.Copies.{copies}
-use Rattle.lists.specs.FullLists.{putList, fullPut, goesUp, movedSlots, splitList}
-use Rattle.writing.specs.Writing.{putOf}
+use Rattle.steps.specs.Model.{lineWrites}
+use Rattle.steps.specs.Encoding.{stepAt}
+use Rattle.machine.specs.Calls.{cutOf, runOf}
 use Rattle.writing.specs.Writing.{Outcome}
-use Rattle.image.specs.Entries as E
-use Rattle.demands.specs.Demand2.{Call, put, answered}
+use Rattle.demands.specs.Demand2.{put, answered}
 use Rattle.demands.specs.Demand3.{Run, blank, whole, cut}
+use Rattle.demands.specs.Computing.{computing}
 
 abbrev list : List ℕ
 list = replicate 112 0
@@ -61,7 +44,7 @@ filled (suc n) h a =
     (whole (filled n (omega arith) (a .0)) (put (suc n) 100) list (omega arith, omega arith) (a .1))
 
 full : Run (after 14) 14 0 0 0 17
-unfolding reads wordAt storeAt field patched altIn fingerprintIn fingerprintOf isLocked isOccupied marked xorOfBytes cleared flipped block occIn view count countTo holdsKey lowest lowestVacant slotOf closest leastFrom atMost mostTo shares someTo twinAt twins wrongAt isSettled decode written badImage badArrivals badList faultOf judged surveyed walk lookup slotsFrom slotsOf entriesOf listOf targetFrom chainFrom chainOf entriesIn isSound nearPut putAt farPut filledHead copiesBeside plainPut copies putList fullPut goesUp movedSlots splitList putOf E.entriesIn
+unfolding computing
 full =
     filled 14 (omega arith)
     (((((((((((((((tt, refl), refl), refl), refl), refl), refl), refl), refl), refl), refl), refl), refl), refl), refl))
@@ -90,11 +73,11 @@ again image s n W r =
     (cut r (put 15 100) list (omega arith, omega arith) (s .accepted) 41 arrivals (s .steps) (s .permitted))))
 
 once : Run (left (after 14)) 14 0 0 1 23
-unfolding reads wordAt storeAt field patched altIn fingerprintIn fingerprintOf isLocked isOccupied marked xorOfBytes cleared flipped block occIn view count countTo holdsKey lowest lowestVacant slotOf closest leastFrom atMost mostTo shares someTo twinAt twins wrongAt isSettled decode written badImage badArrivals badList faultOf judged surveyed walk lookup slotsFrom slotsOf entriesOf listOf targetFrom chainFrom chainOf entriesIn isSound nearPut putAt farPut filledHead copiesBeside plainPut copies putList fullPut goesUp movedSlots splitList putOf E.entriesIn
+unfolding computing
 once = cut full (put 15 100) list (omega arith, omega arith) refl 41 arrivals (omega arith) refl
 
 stays : Stays (left (after 14))
-unfolding reads wordAt storeAt field patched altIn fingerprintIn fingerprintOf isLocked isOccupied marked xorOfBytes cleared flipped block occIn view count countTo holdsKey lowest lowestVacant slotOf closest leastFrom atMost mostTo shares someTo twinAt twins wrongAt isSettled decode written badImage badArrivals badList faultOf judged surveyed walk lookup slotsFrom slotsOf entriesOf listOf targetFrom chainFrom chainOf entriesIn isSound nearPut putAt farPut filledHead copiesBeside plainPut copies putList fullPut goesUp movedSlots splitList putOf E.entriesIn
+unfolding computing
 stays = record { accepted = refl; steps = omega arith; permitted = refl; lines = refl; same = refl }
 
 pub often : (n : ℕ) → Run (left (after 14)) 14 0 0 (suc n) (17 + 6 * suc n)
