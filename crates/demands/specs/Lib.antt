@@ -5,6 +5,9 @@ pub mod Carried
 pub mod Accepted
 pub mod Demand2
 pub mod Demand3
+pub mod Calls
+pub mod Unique
+pub mod Demand1
 pub mod Computing
 pub mod Cases
 pub mod Tight
