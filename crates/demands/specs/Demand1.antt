@@ -97,7 +97,7 @@ either number n x y p q = by-test (λ b. number (cond b x y) ≡ n) (eqb n 0) (�
 other : {A : Type 0} (n : ℕ) (x y : A) → n ≢ 0 → cond (eqb n 0) x y ≡ y
 other n x y ne = ap (λ (b : Bool). cond b x y) (ne-eqb n 0 ne)
 
-answers : (asked : Asked) (r : Result asked) → Allowed asked r → told asked r .number ≡ answer (table asked)
+pub answers : (asked : Asked) (r : Result asked) → Allowed asked r → told asked r .number ≡ answer (table asked)
 unfolding findOf listingOf recoveryOf putOf setOf delOf
 answers (find image key) r p = ap (λ t. t .answer) p
 answers (listing image from keys values) r p =

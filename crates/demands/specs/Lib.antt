@@ -8,6 +8,7 @@ pub mod Demand3
 pub mod Calls
 pub mod Unique
 pub mod Demand1
+pub mod Alike
 pub mod Computing
 pub mod Cases
 pub mod Tight
