@@ -4,18 +4,16 @@ use mathlib.Core.Path.{_≡_, refl, sym, ap, _∙_, subst}
 use mathlib.Core.Bool.{Bool, true, false, cond, not}
 use mathlib.Core.List.{List, [], _∷_, _++_}
 use mathlib.Core.Logic.{_≢_}
-use mathlib.Core.Option.{Option, some, none}
-use Prim.Native.Nat.{ℕ, _*_, _^_, _≤_, _<_}
+use Prim.Native.Nat.{ℕ, _^_, _≤_, _<_}
 use native.Mathlib.Omega.{arith}
-use borrow.Author.Tests.{ltb-false, eq-eqb, not-false, not-true}
-use lib.Dec.{ltb, eqb}
+use borrow.Author.Tests.{ltb-false, eq-eqb, not-false}
 use lib.ListN.{length}
 use Rattle.words.specs.Words.{reads}
-use Rattle.words.specs.WordLaws.{Bytes, word-small}
-use Rattle.words.specs.Bools.{both, by-test, differ, not-so}
-use Rattle.leaf.specs.Leaf.{Leaf, Taken, In, view}
-use Rattle.leaf.specs.Search.{slotOf, count}
-use Rattle.leaf.specs.SearchLaws.{slot-at, slot-missing, lowest-at}
+use Rattle.words.specs.WordLaws.{Bytes}
+use Rattle.words.specs.Bools.{both, differ}
+use Rattle.leaf.specs.Leaf.{Leaf, Taken, view}
+use Rattle.leaf.specs.Search.{count}
+use Rattle.leaf.specs.SearchLaws.{slot-at, slot-missing}
 use Rattle.leaf.specs.declared.search.Slot.{Slot}
 use Rattle.leaf.specs.declared.search.Slot.the-variants.{At, Missing}
 use Rattle.steps.specs.declared.Step.{Step}
@@ -24,7 +22,7 @@ use Rattle.steps.specs.Rules.{lawful01}
 use Rattle.steps.specs.Encoding.{written}
 use Rattle.steps.specs.Refusals.{badImage, row-passed}
 use Rattle.image.specs.Blocks.{view-size}
-use Rattle.image.specs.Chain.{All, Sound}
+use Rattle.image.specs.Chain.{Sound, LowestFree}
 use Rattle.image.specs.ChainLaws.{Good, all-split, sound-good}
 use Rattle.image.specs.Edits.{Absent}
 use Rattle.image.specs.Map.{Entry, lookup, putIn, without}
@@ -39,14 +37,14 @@ use Rattle.index.specs.Reading.{isSound, chainOf, entriesIn, isNone}
 use Rattle.index.specs.SoundTest.{survey-sound, sound-survey, test-sound, sound-chain, aim-target}
 use Rattle.lists.specs.Lists.{setList, delList}
 use Rattle.lists.specs.FullLists.{putList}
-use Rattle.lists.specs.Served.{Small, Served, linesOf}
-use Rattle.lists.specs.SetDel.{Behind, set-served, del-served}
-use Rattle.lists.specs.Put.{put-served}
+use Rattle.lists.specs.Served.{linesOf}
+use Rattle.lists.specs.SetDel.{Behind}
+use Rattle.lists.specs.Calls.{set-call, del-call, put-call}
 use Rattle.lists.specs.Sizes.{set-size, del-size, put-size}
-use Rattle.lists.specs.Bytes.{ServedBytes, served-bytes}
-use Rattle.writing.specs.Writing.{targetOf, beforeOf, placeOf, freeOf, isAmong, isMissing, isFull, blockOr0, Outcome, outcome, shortList, atSlot, setOf, delOf, putOf}
+use Rattle.lists.specs.Bytes.{ServedBytes}
+use Rattle.writing.specs.Writing.{targetOf, beforeOf, placeOf, freeOf, isMissing, isFull, blockOr0, Outcome, outcome, shortList, atSlot, setOf, delOf, putOf}
 use Rattle.writing.specs.ChangeLaws.{noted-target, noted-before, noted-value}
-use Rattle.writing.specs.PutLaws.{not-among}
+use Rattle.demands.specs.Free.{free-lowest}
 
 -- ---- what is known of a sound image and a key
 
@@ -95,10 +93,6 @@ module _ (l : List ℕ) (k : ℕ) (J : Judged l k) where
   unfolding entriesIn
   judged-list = ap (listOf (leaves l)) (sym (J .chain))
 
-words : (l : List ℕ) → Bytes l → Small (reads l)
-unfolding reads
-words l b p = word-small l (8 * p) b
-
 -- ---- an accepted call: the list made, and that it serves
 
 pub record Accepted (l list : List ℕ) (o : Outcome) (es : List Entry) (price : ℕ) : Type 0 where
@@ -122,16 +116,13 @@ told-list n t list e = ap (λ (b : Bool). cond b (written t list) list) (eq-eqb 
 told-steps : (n : ℕ) (t : List Step) (list : List ℕ) → n ≡ 0 → outcome n t list .steps ≡ length t
 told-steps n t list e = ap (λ (b : Bool). cond b (length t) 0) (eq-eqb n 0 e)
 
-served-as : {w : ℕ → ℕ} {N : ℕ} {chain : List ℕ} {t : List Step} {es fs : List Entry} {price : ℕ} → es ≡ fs
-    → Served rule01 w N chain t es price → Served rule01 w N chain t fs price
-served-as {w} {N} {chain} {t} {es} {fs} {price} q S = subst (λ (x : List Entry). Served rule01 w N chain t x price) q S
-
 told-lines : (n : ℕ) (t : List Step) (list : List ℕ) → n ≡ 0 → outcome n t list .lines ≡ linesOf t
 told-lines n t list e = ap (λ (b : Bool). cond b (linesOf t) 0) (eq-eqb n 0 e)
 
-module _ (l : List ℕ) (bytes : Bytes l) (fine : badImage (length l) ≡ false) where
-  in-bytes : (chain : List ℕ) (t : List Step) (es : List Entry) (price : ℕ) → Served rule01 (reads l) (blocks l) chain t es price → ServedBytes rule01 l chain t es price
-  in-bytes chain t es price S = served-bytes rule01 l chain t es price ((good-length l fine) .whole) bytes S
+-- a list serves the same map, as the image's own entries have it
+served-as : {l chain : List ℕ} {t : List Step} {es fs : List Entry} {price : ℕ} → es ≡ fs → ServedBytes rule01 l chain t es price
+    → ServedBytes rule01 l chain t fs price
+served-as {l} {chain} {t} {es} {fs} {price} q S = subst (λ (x : List Entry). ServedBytes rule01 l chain t x price) q S
 
 is-full : (w : ℕ → ℕ) (b : ℕ) → count (view w b) ≡ 14 → isFull (view w b) ≡ true
 is-full w b e = eq-eqb (count (view w b)) (view w b .size) (e ∙ sym (view-size w b))
@@ -178,9 +169,8 @@ module _ (l list : List ℕ) (k : ℕ) (bytes : Bytes l) where
         lines = omega (arith, set-size b (h .slot) v .1);
         chain-is = J .chain;
         before = judged-list l k J;
-        served = in-bytes l bytes (r .0) _ _ _ 7 (served-as
-            (λ i. putIn (h .key i) v (judged-list l k J i))
-            (set-served rule01 lawful01 (reads l) (words l bytes) (blocks l) (z .some) (J .front) b (J .behind) (J .sound) (h .slot) (h .taken) v small));
+        served = served-as (ap (putIn k v) (judged-list l k J))
+            (set-call rule01 lawful01 l z bytes (J .front) b (J .behind) (J .sound) k (h .slot) (h .taken) (h .key) v small);
         list-is = told-list _ _ list e ∙ ap (λ (t : List Step). written t list) q;
         steps-is = told-steps _ (atSlot (placeOf l k) (λ s. setList b s v)) list e ∙ ap length q;
         lines-is = told-lines _ (atSlot (placeOf l k) (λ s. setList b s v)) list e ∙ ap linesOf q;
@@ -204,9 +194,9 @@ module _ (l list : List ℕ) (k : ℕ) (bytes : Bytes l) where
         lines = omega (arith, del-size (reads l) (beforeOf l k) b (h .slot) .1);
         chain-is = J .chain;
         before = judged-list l k J;
-        served = in-bytes l bytes (r .0) _ _ _ 7 (served-as
-            (λ i. without (h .key i) (judged-list l k J i))
-            (del-served rule01 lawful01 (reads l) (words l bytes) (blocks l) (z .some) (J .front) (beforeOf l k) b (J .behind) (J .sound) (J .before) (h .slot) (h .taken)));
+        served = served-as (ap (without k) (judged-list l k J))
+            (del-call rule01 lawful01 l z bytes (J .front) b (J .behind) (J .sound) k (h .slot) (h .taken) (h .key) (beforeOf l k)
+            (J .before));
         list-is = told-list _ _ list e ∙ ap (λ (t : List Step). written t list) q;
         steps-is = told-steps _ (atSlot (placeOf l k) (λ s. delList (reads l) (beforeOf l k) b s)) list e ∙ ap length q;
         lines-is = told-lines _ (atSlot (placeOf l k) (λ s. delList (reads l) (beforeOf l k) b s)) list e ∙ ap linesOf q;
@@ -225,16 +215,13 @@ module _ (l list : List ℕ) (k : ℕ) (bytes : Bytes l) where
 
   -- a full target leaf has a free block
   spare : (J : Judged l k) → both (isFull (leaves l (targetOf l k))) (isMissing (freeOf l)) ≡ false → count (leaves l (targetOf l k)) ≡ 14
-      → (blockOr0 (freeOf l) < blocks l) × All (λ x. x ≢ blockOr0 (freeOf l)) (J .front ++ (targetOf l k ∷ J .behind))
-  spare J e full = go (freeOf l) refl (sym (ap (λ (b : Bool). both b (isMissing (freeOf l))) (is-full (reads l) (targetOf l k) full)) ∙ e)
+      → LowestFree (blocks l) (J .front ++ (targetOf l k ∷ J .behind)) (blockOr0 (freeOf l))
+  spare J e full =
+      go (freeOf l) refl (sym (ap (λ (b : Bool). both b (isMissing (freeOf l))) (is-full (reads l) (targetOf l k) full)) ∙ e)
     where
       go : (x : Slot) → freeOf l ≡ x → isMissing x ≡ false
-          → (blockOr0 x < blocks l) × All (λ y. y ≢ blockOr0 x) (J .front ++ (targetOf l k ∷ J .behind))
-      go (At c) q z =
-          let r = lowest-at (λ b. not (isAmong b (chainOf l))) (blocks l) 0 c q in (
-            omega (arith, r .below),
-            subst (λ (bs : List ℕ). All (λ y. y ≢ c) bs) (J .chain) (not-among c (chainOf l) (not-true (isAmong c (chainOf l)) (r .passes))),
-          )
+          → LowestFree (blocks l) (J .front ++ (targetOf l k ∷ J .behind)) (blockOr0 x)
+      go (At c) q z = subst (λ (bs : List ℕ). LowestFree (blocks l) bs c) (J .chain) (free-lowest l c q)
       go Missing q z = differ z
 
   pub put-accepted : (v : ℕ) → k < 2 ^ 64 → v < 2 ^ 64 → putOf l list k v .answer ≡ 0
@@ -257,12 +244,9 @@ module _ (l list : List ℕ) (k : ℕ) (bytes : Bytes l) where
         lines = put-size (reads l) b c k v .1;
         chain-is = J .chain;
         before = judged-list l k J;
-        served = in-bytes l bytes (r .0) _ _ _ 20 (served-as
-            (ap (putIn k v) (judged-list l k J))
-            (put-served rule01 lawful01 (reads l) (words l bytes) (blocks l) (z .some) (z .most) (J .front) b c (J .behind) (J .sound) k v key small
-            (J .target)
-            (missing J (not-false (isNone (lookup k (entriesIn l))) (p .0)))
-            (spare J f)));
+        served = served-as (ap (putIn k v) (judged-list l k J))
+            (put-call rule01 lawful01 l z bytes (J .front) b (J .behind) (J .sound) k key v small (J .target)
+            (missing J (not-false (isNone (lookup k (entriesIn l))) (p .0))) c (spare J f));
         list-is = told-list _ _ list e;
         steps-is = told-steps _ (putList (reads l) b c k v) list e;
         lines-is = told-lines _ (putList (reads l) b c k v) list e;

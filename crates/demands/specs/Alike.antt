@@ -1,7 +1,7 @@
 -- "Two sound images alike in length, chain, occupied slots and entries give equal find, listing, recovery answers and refusals."
 use mathlib.Core.Path.{_≡_, refl, sym, ap, _∙_, subst}
-use mathlib.Core.Bool.{Bool, true, false, cond, not}
-use mathlib.Core.List.{List, [], _∷_, _++_}
+use mathlib.Core.Bool.{Bool, false, cond, not}
+use mathlib.Core.List.{List, [], _∷_}
 use mathlib.Core.Option.{Option, some, none}
 use Prim.Native.Nat.{ℕ, _/_}
 use lib.Dec.{leb, eqb}
@@ -16,7 +16,7 @@ use Rattle.image.specs.Map.{lookup}
 use Rattle.image.specs.Same.{Same, Slots}
 use Rattle.image.specs.CountLaws.{count-ext, count-slots}
 use Rattle.image.specs.ChainLaws.{Agree, all-split}
-use Rattle.image.specs.Image.{blocks, leaves, SoundImage, Alike}
+use Rattle.image.specs.Image.{leaves, SoundImage, Alike}
 use Rattle.image.specs.ImageLaws.{alike-agree}
 use Rattle.verdict.specs.Place.{reachesTo, targetFrom}
 use Rattle.index.specs.Rows.{row-given}

@@ -1,12 +1,11 @@
 -- What `lists` proves of a list of steps, carried to the list of words that a call writes and to what run and cut leave of it.
-use mathlib.Core.Path.{_≡_, refl, sym, ap, _∙_, subst}
+use mathlib.Core.Path.{_≡_, sym, ap, _∙_, subst}
 use mathlib.Core.List.{List}
 use mathlib.Core.Bool.{false}
 use mathlib.Core.Logic.{_⊎_, inl, inr}
 use Prim.Native.Nat.{ℕ, _+_, _≤_}
 use native.Mathlib.Omega.{arith}
 use lib.ListN.{length}
-use Rattle.words.specs.Words.{reads}
 use Rattle.steps.specs.declared.Step.{Step}
 use Rattle.steps.specs.Model.{line, rule01, isLineWrite, lineWrites}
 use Rattle.steps.specs.BelowLaws.{count-cong}

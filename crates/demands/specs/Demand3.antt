@@ -1,9 +1,9 @@
 -- "3. From a blank image, over any run of calls, whole or cut (I puts, D dels, R sets run whole, C accepted calls cut, W line
 -- write-backs taken): 7W ≤ 20I + 7(D + R) + 42C, and no call takes more than 8."
-use mathlib.Core.Path.{_≡_, refl, sym, ap, _∙_, subst}
+use mathlib.Core.Path.{_≡_, sym, ap, _∙_, subst}
 use mathlib.Core.Bool.{false}
 use mathlib.Core.List.{List}
-use mathlib.Core.Logic.{_⊎_, inl, inr}
+use mathlib.Core.Logic.{inl, inr}
 use Prim.Native.Nat.{ℕ, _+_, _*_, _≤_}
 use native.Mathlib.Omega.{arith}
 use lib.ListN.{length, replicate, length-replicate}

@@ -1,6 +1,7 @@
 -- The demands. To believe: Holds, and of Demand2 what stands above its theorem. Carried and Accepted join the calls' contracts with what
 -- `lists` proves.
 pub mod Holds
+pub mod Free
 pub mod Carried
 pub mod Accepted
 pub mod Demand2
