@@ -1,5 +1,5 @@
--- An accepted call has passed its table's rows; so the image is sound, the target leaf is the survey's, and the list made is one that
--- `lists` serves.
+-- An accepted call has passed its table's rows; so the image is sound, the target leaf is the survey's, and the list made is one
+-- that `lists` serves.
 use mathlib.Core.Path.{_≡_, refl, sym, ap, _∙_, subst}
 use mathlib.Core.Bool.{Bool, true, false, cond, not}
 use mathlib.Core.List.{List, [], _∷_, _++_}
@@ -19,7 +19,6 @@ use Rattle.leaf.specs.declared.search.Slot.the-variants.{At, Missing}
 use Rattle.steps.specs.declared.Step.{Step}
 use Rattle.steps.specs.Model.{rule01}
 use Rattle.steps.specs.Rules.{lawful01}
-use Rattle.steps.specs.Encoding.{written}
 use Rattle.steps.specs.Refusals.{badImage, row-passed}
 use Rattle.image.specs.Blocks.{view-size}
 use Rattle.image.specs.Chain.{Sound, LowestFree}
@@ -42,7 +41,8 @@ use Rattle.lists.specs.SetDel.{Behind}
 use Rattle.lists.specs.Calls.{set-call, del-call, put-call}
 use Rattle.lists.specs.Sizes.{set-size, del-size, put-size}
 use Rattle.lists.specs.Bytes.{ServedBytes}
-use Rattle.writing.specs.Writing.{targetOf, beforeOf, placeOf, freeOf, isMissing, isFull, blockOr0, Outcome, outcome, shortList, atSlot, setOf, delOf, putOf}
+use Rattle.writing.specs.Writing.{targetOf, beforeOf, placeOf, freeOf, isMissing, isFull, blockOr0}
+use Rattle.writing.specs.Writing.{Outcome, outcome, shortList, atSlot, setOf, delOf, putOf}
 use Rattle.writing.specs.ChangeLaws.{noted-target, noted-before, noted-value}
 use Rattle.demands.specs.Free.{free-lowest}
 
@@ -85,44 +85,25 @@ judged l k fine so =
       value = noted-value l k fine e;
     }
 
-module _ (l : List ℕ) (k : ℕ) (J : Judged l k) where
-  abbrev chain : List ℕ
-  chain = J .front ++ (targetOf l k ∷ J .behind)
-
-  pub judged-list : listOf (leaves l) chain ≡ entriesIn l
-  unfolding entriesIn
-  judged-list = ap (listOf (leaves l)) (sym (J .chain))
-
--- ---- an accepted call: the list made, and that it serves
+-- ---- an accepted call: what it tells of the list made, and that the list serves
 
 pub record Accepted (l list : List ℕ) (o : Outcome) (es : List Entry) (price : ℕ) : Type 0 where
   pub made : List Step
-  pub chain : List ℕ
   pub fine : badImage (length l) ≡ false
   pub room : 112 ≤ length list
   pub few : length made ≤ 56
   pub lines : linesOf made ≤ 8
-  pub chain-is : chainOf l ≡ chain
-  pub before : listOf (leaves l) chain ≡ entriesIn l
-  pub served : ServedBytes rule01 l chain made es price
-  pub list-is : o .list ≡ written made list
-  pub steps-is : o .steps ≡ length made
-  pub lines-is : o .lines ≡ linesOf made
+  pub served : ServedBytes rule01 l (chainOf l) made es price
+  pub told : o ≡ outcome 0 made list
 
--- the parts of an outcome whose answer is 0
-told-list : (n : ℕ) (t : List Step) (list : List ℕ) → n ≡ 0 → outcome n t list .list ≡ written t list
-told-list n t list e = ap (λ (b : Bool). cond b (written t list) list) (eq-eqb n 0 e)
+told-as : {n : ℕ} {t u : List Step} (list : List ℕ) → n ≡ 0 → t ≡ u → outcome n t list ≡ outcome 0 u list
+told-as list e q = λ i. outcome (e i) (q i) list
 
-told-steps : (n : ℕ) (t : List Step) (list : List ℕ) → n ≡ 0 → outcome n t list .steps ≡ length t
-told-steps n t list e = ap (λ (b : Bool). cond b (length t) 0) (eq-eqb n 0 e)
-
-told-lines : (n : ℕ) (t : List Step) (list : List ℕ) → n ≡ 0 → outcome n t list .lines ≡ linesOf t
-told-lines n t list e = ap (λ (b : Bool). cond b (linesOf t) 0) (eq-eqb n 0 e)
-
--- a list serves the same map, as the image's own entries have it
-served-as : {l chain : List ℕ} {t : List Step} {es fs : List Entry} {price : ℕ} → es ≡ fs → ServedBytes rule01 l chain t es price
-    → ServedBytes rule01 l chain t fs price
-served-as {l} {chain} {t} {es} {fs} {price} q S = subst (λ (x : List Entry). ServedBytes rule01 l chain t x price) q S
+-- what serves the chain around the target leaf serves the image's own chain and entries
+served-as : {l : List ℕ} (f : List Entry → List Entry) {bs : List ℕ} {t : List Step} {price : ℕ} → chainOf l ≡ bs
+    → ServedBytes rule01 l bs t (f (listOf (leaves l) bs)) price → ServedBytes rule01 l (chainOf l) t (f (entriesIn l)) price
+unfolding entriesIn
+served-as {l} f {bs} {t} {price} q S = subst (λ (x : List ℕ). ServedBytes rule01 l x t (f (listOf (leaves l) x)) price) (sym q) S
 
 is-full : (w : ℕ → ℕ) (b : ℕ) → count (view w b) ≡ 14 → isFull (view w b) ≡ true
 is-full w b e = eq-eqb (count (view w b)) (view w b .size) (e ∙ sym (view-size w b))
@@ -143,63 +124,52 @@ held l k J e = go (placeOf l k) refl (ap isNone (J .value) ∙ e)
     go Missing q z = differ z
 
 module _ (l list : List ℕ) (k : ℕ) (bytes : Bytes l) where
-  module _ (n : ℕ) (rest : ℕ) (is : n ≡ cond (badImage (length l)) 1 (cond (shortList list) 2 (cond (not (isSound l)) 3 rest))) (zero : n ≡ 0) where
-    rows : (badImage (length l) ≡ false) × (112 ≤ length list) × (isSound l ≡ true) × (rest ≡ 0)
-    rows =
-        let a = row-passed 1 (badImage (length l)) (cond (shortList list) 2 (cond (not (isSound l)) 3 rest)) (omega arith) (sym is ∙ zero) in
-        let b = row-passed 2 (shortList list) (cond (not (isSound l)) 3 rest) (omega arith) (a .1) in
-        let c = row-passed 3 (not (isSound l)) rest (omega arith) (b .1) in
-        (a .0, ltb-false (length list) 112 (b .0), not-false (isSound l) (c .0), c .1)
+  -- the rows that put, set and del begin with
+  rows : (rest : ℕ) → cond (badImage (length l)) 1 (cond (shortList list) 2 (cond (not (isSound l)) 3 rest)) ≡ 0
+      → (badImage (length l) ≡ false) × (112 ≤ length list) × (isSound l ≡ true) × (rest ≡ 0)
+  rows rest e =
+      let a = row-passed 1 (badImage (length l)) (cond (shortList list) 2 (cond (not (isSound l)) 3 rest)) (omega arith) e in
+      let b = row-passed 2 (shortList list) (cond (not (isSound l)) 3 rest) (omega arith) (a .1) in
+      let c = row-passed 3 (not (isSound l)) rest (omega arith) (b .1) in
+      (a .0, ltb-false (length list) 112 (b .0), not-false (isSound l) (c .0), c .1)
 
-  pub set-accepted : (v : ℕ) → v < 2 ^ 64 → setOf l list k v .answer ≡ 0 → Accepted l list (setOf l list k v) (putIn k v (entriesIn l)) 7
+  pub set-accepted : (v : ℕ) → v < 2 ^ 64 → setOf l list k v .answer ≡ 0
+      → Accepted l list (setOf l list k v) (putIn k v (entriesIn l)) 7
   unfolding setOf
   set-accepted v small e =
-      let r = rows _ _ refl e in
+      let r = rows (cond (isNone (lookup k (entriesIn l))) 5 0) e in
       let J = judged l k (r .0) (r .2) in
       let h = held l k J (row-passed 5 (isNone (lookup k (entriesIn l))) 0 (omega arith) (r .3) .0) in
       let b = targetOf l k in
-      let z = good-length l (r .0) in
-      let q = ap (λ (x : Slot). atSlot x (λ s. setList b s v)) (h .at) in
       record {
         made = setList b (h .slot) v;
-        chain = J .front ++ (b ∷ J .behind);
         fine = r .0;
         room = r .1;
         few = omega (arith, set-size b (h .slot) v .0);
         lines = omega (arith, set-size b (h .slot) v .1);
-        chain-is = J .chain;
-        before = judged-list l k J;
-        served = served-as (ap (putIn k v) (judged-list l k J))
-            (set-call rule01 lawful01 l z bytes (J .front) b (J .behind) (J .sound) k (h .slot) (h .taken) (h .key) v small);
-        list-is = told-list _ _ list e ∙ ap (λ (t : List Step). written t list) q;
-        steps-is = told-steps _ (atSlot (placeOf l k) (λ s. setList b s v)) list e ∙ ap length q;
-        lines-is = told-lines _ (atSlot (placeOf l k) (λ s. setList b s v)) list e ∙ ap linesOf q;
+        served = served-as (putIn k v) (J .chain)
+            (set-call rule01 lawful01 l (good-length l (r .0)) bytes (J .front) b (J .behind) (J .sound) k (h .slot) (h .taken)
+            (h .key) v small);
+        told = told-as list e (ap (λ (x : Slot). atSlot x (λ s. setList b s v)) (h .at));
       }
 
   pub del-accepted : delOf l list k .answer ≡ 0 → Accepted l list (delOf l list k) (without k (entriesIn l)) 7
   unfolding delOf
   del-accepted e =
-      let r = rows _ _ refl e in
+      let r = rows (cond (isNone (lookup k (entriesIn l))) 5 0) e in
       let J = judged l k (r .0) (r .2) in
       let h = held l k J (row-passed 5 (isNone (lookup k (entriesIn l))) 0 (omega arith) (r .3) .0) in
       let b = targetOf l k in
-      let z = good-length l (r .0) in
-      let q = ap (λ (x : Slot). atSlot x (λ s. delList (reads l) (beforeOf l k) b s)) (h .at) in
       record {
         made = delList (reads l) (beforeOf l k) b (h .slot);
-        chain = J .front ++ (b ∷ J .behind);
         fine = r .0;
         room = r .1;
         few = omega (arith, del-size (reads l) (beforeOf l k) b (h .slot) .0);
         lines = omega (arith, del-size (reads l) (beforeOf l k) b (h .slot) .1);
-        chain-is = J .chain;
-        before = judged-list l k J;
-        served = served-as (ap (without k) (judged-list l k J))
-            (del-call rule01 lawful01 l z bytes (J .front) b (J .behind) (J .sound) k (h .slot) (h .taken) (h .key) (beforeOf l k)
-            (J .before));
-        list-is = told-list _ _ list e ∙ ap (λ (t : List Step). written t list) q;
-        steps-is = told-steps _ (atSlot (placeOf l k) (λ s. delList (reads l) (beforeOf l k) b s)) list e ∙ ap length q;
-        lines-is = told-lines _ (atSlot (placeOf l k) (λ s. delList (reads l) (beforeOf l k) b s)) list e ∙ ap linesOf q;
+        served = served-as (without k) (J .chain)
+            (del-call rule01 lawful01 l (good-length l (r .0)) bytes (J .front) b (J .behind) (J .sound) k (h .slot) (h .taken)
+            (h .key) (beforeOf l k) (J .before));
+        told = told-as list e (ap (λ (x : Slot). atSlot x (λ s. delList (reads l) (beforeOf l k) b s)) (h .at));
       }
 
   -- a key that is not there is in no slot of its target leaf
@@ -207,14 +177,19 @@ module _ (l list : List ℕ) (k : ℕ) (bytes : Bytes l) where
   missing J e u i = go (placeOf l k) refl (ap isNone (J .value) ∙ e)
     where
       g : Good (leaves l) (blocks l) (targetOf l k)
-      g = all-split (Good (leaves l) (blocks l)) (J .front) (targetOf l k ∷ J .behind) (sound-good (leaves l) (blocks l) (J .sound)) .1 .0
+      g =
+          all-split (Good (leaves l) (blocks l)) (J .front) (targetOf l k ∷ J .behind)
+          (sound-good (leaves l) (blocks l) (J .sound)) .1 .0
 
       go : (x : Slot) → placeOf l k ≡ x → isNone (valueAt (leaves l (targetOf l k)) x) ≡ true → ⊥
       go (At s) q z = differ (sym z)
       go Missing q z = slot-missing (leaves l (targetOf l k)) (g .right) k q (i .at) (i .taken) (i .key-is)
 
+  abbrev wanting : Bool
+  wanting = both (isFull (leaves l (targetOf l k))) (isMissing (freeOf l))
+
   -- a full target leaf has a free block
-  spare : (J : Judged l k) → both (isFull (leaves l (targetOf l k))) (isMissing (freeOf l)) ≡ false → count (leaves l (targetOf l k)) ≡ 14
+  spare : (J : Judged l k) → wanting ≡ false → count (leaves l (targetOf l k)) ≡ 14
       → LowestFree (blocks l) (J .front ++ (targetOf l k ∷ J .behind)) (blockOr0 (freeOf l))
   spare J e full =
       go (freeOf l) refl (sym (ap (λ (b : Bool). both b (isMissing (freeOf l))) (is-full (reads l) (targetOf l k) full)) ∙ e)
@@ -228,26 +203,20 @@ module _ (l list : List ℕ) (k : ℕ) (bytes : Bytes l) where
       → Accepted l list (putOf l list k v) (putIn k v (entriesIn l)) 20
   unfolding putOf
   put-accepted v key small e =
-      let r = rows _ _ refl e in
+      let r = rows (cond (not (isNone (lookup k (entriesIn l)))) 4 (cond wanting 6 0)) e in
       let J = judged l k (r .0) (r .2) in
       let b = targetOf l k in
-      let z = good-length l (r .0) in
       let c = blockOr0 (freeOf l) in
-      let p = row-passed 4 (not (isNone (lookup k (entriesIn l)))) (cond (both (isFull (leaves l b)) (isMissing (freeOf l))) 6 0) (omega arith) (r .3) in
-      let f = row-passed 6 (both (isFull (leaves l b)) (isMissing (freeOf l))) 0 (omega arith) (p .1) .0 in
+      let p = row-passed 4 (not (isNone (lookup k (entriesIn l)))) (cond wanting 6 0) (omega arith) (r .3) in
+      let f = row-passed 6 wanting 0 (omega arith) (p .1) .0 in
       record {
         made = putList (reads l) b c k v;
-        chain = J .front ++ (b ∷ J .behind);
         fine = r .0;
         room = r .1;
         few = put-size (reads l) b c k v .0;
         lines = put-size (reads l) b c k v .1;
-        chain-is = J .chain;
-        before = judged-list l k J;
-        served = served-as (ap (putIn k v) (judged-list l k J))
-            (put-call rule01 lawful01 l z bytes (J .front) b (J .behind) (J .sound) k key v small (J .target)
+        served = served-as (putIn k v) (J .chain)
+            (put-call rule01 lawful01 l (good-length l (r .0)) bytes (J .front) b (J .behind) (J .sound) k key v small (J .target)
             (missing J (not-false (isNone (lookup k (entriesIn l))) (p .0))) c (spare J f));
-        list-is = told-list _ _ list e;
-        steps-is = told-steps _ (putList (reads l) b c k v) list e;
-        lines-is = told-lines _ (putList (reads l) b c k v) list e;
+        told = told-as list e refl;
       }

@@ -80,7 +80,8 @@ reaches-same {L} {M} k S = ap (λ (n : ℕ). not (eqb (countTo (atMost M k) n) 0
     by-slot s =
         by-test (λ b. L .occ s ≡ b → atMost M k s ≡ atMost L k s) (L .occ s)
         (λ x o. λ i. both (S .occ s i) (leb (S .key s o i) k))
-        (λ x o. ap (λ (b : Bool). both b (leb (M .key s) k)) (S .occ s ∙ o) ∙ sym (ap (λ (b : Bool). both b (leb (L .key s) k)) o))
+        (λ x o. ap (λ (b : Bool). both b (leb (M .key s) k)) (S .occ s ∙ o)
+        ∙ sym (ap (λ (b : Bool). both b (leb (L .key s) k)) o))
         refl
 
     e : countTo (atMost M k) (L .size) ≡ countTo (atMost L k) (L .size)
@@ -170,12 +171,14 @@ module _ (l m : List ℕ) (a : Alike l m) (list : List ℕ) (k : ℕ) where
 
 -- ---- THE DEMAND
 
-by-table : (asked : Asked) (m : List ℕ) (r : Result asked) (s : Result (askedOf m asked)) → Allowed asked r → Allowed (askedOf m asked) s
-    → answer (table (askedOf m asked)) ≡ answer (table asked) → (Reads asked → ⊥) → Demanded asked m r s
+by-table : (asked : Asked) (m : List ℕ) (r : Result asked) (s : Result (askedOf m asked)) → Allowed asked r
+    → Allowed (askedOf m asked) s → answer (table (askedOf m asked)) ≡ answer (table asked) → (Reads asked → ⊥)
+    → Demanded asked m r s
 by-table asked m r s p q e writes =
     record { refusals = answers (askedOf m asked) s q ∙ e ∙ sym (answers asked r p); reads = λ u. absurd (writes u) }
 
-as-told : (asked : Asked) (m : List ℕ) (r : Result asked) (s : Result (askedOf m asked)) → told (askedOf m asked) s ≡ told asked r → Demanded asked m r s
+as-told : (asked : Asked) (m : List ℕ) (r : Result asked) (s : Result (askedOf m asked))
+    → told (askedOf m asked) s ≡ told asked r → Demanded asked m r s
 as-told asked m r s e = record { refusals = ap (λ (t : Told). t .number) e; reads = λ u. e }
 
 pub alike : (asked : Asked) (m : List ℕ) → Alike (imageOf asked) m → (r : Result asked) (s : Result (askedOf m asked))

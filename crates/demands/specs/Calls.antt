@@ -1,5 +1,5 @@
--- The public calls with their contracts, as one family: what is asked, the results that the contract allows, what a result tells, and
--- document 01's refusals. To be believed.
+-- The public calls with their contracts, as one family: what is asked, the results that the contract allows, what a result tells,
+-- and document 01's refusals. To be believed.
 use mathlib.Core.Path.{_≡_}
 use mathlib.Core.Bool.{Bool}
 use mathlib.Core.List.{List, [], _∷_}

@@ -3,11 +3,11 @@ use mathlib.Core.Path.{_≡_, sym, ap, _∙_, subst}
 use mathlib.Core.List.{List}
 use mathlib.Core.Bool.{false}
 use mathlib.Core.Logic.{_⊎_, inl, inr}
-use Prim.Native.Nat.{ℕ, _+_, _≤_}
+use Prim.Native.Nat.{ℕ, _+_, _*_, _≤_}
 use native.Mathlib.Omega.{arith}
 use lib.ListN.{length}
 use Rattle.steps.specs.declared.Step.{Step}
-use Rattle.steps.specs.Model.{line, rule01, isLineWrite, lineWrites}
+use Rattle.steps.specs.Model.{line, cut, rule01, Permitted, isLineWrite, lineWrites}
 use Rattle.steps.specs.BelowLaws.{count-cong}
 use Rattle.steps.specs.Settling.{AllSettled}
 use Rattle.steps.specs.Rules.{lawful01, lines-in-lines}
@@ -17,23 +17,44 @@ use Rattle.steps.specs.Concatenation.{Agree, run-cong, cut-cong, permitted-cong
 use Rattle.steps.specs.Refusals.{badImage}
 use Rattle.machine.specs.Calls.{storeWord, arrived, runOf, cutOf}
 use Rattle.machine.specs.Fits.{Passed}
-use Rattle.machine.specs.CallLaws.{run-accepted, cut-passed, cut-accepted, written-passed}
+use Rattle.machine.specs.CallLaws.{Arrived, run-accepted, cut-passed, cut-accepted, written-passed}
 use Rattle.image.specs.Map.{Entry, lookup}
 use Rattle.image.specs.Entries.{listOf}
 use Rattle.image.specs.Potential.{phi}
 use Rattle.image.specs.Image.{leaves, SoundImage}
 use Rattle.image.specs.ImageLaws.{good-length}
-use Rattle.index.specs.Reading.{entriesIn}
+use Rattle.index.specs.Reading.{chainOf, entriesIn}
 use Rattle.index.specs.SoundTest.{sound-chain}
 use Rattle.index.specs.Agreement.{foundIn, find-accepted, listing-accepted}
-use Rattle.lists.specs.Served.{spent}
-use Rattle.lists.specs.Bytes.{LeftBytes, ServedBytes}
+use Rattle.lists.specs.Served.{perLine, perCut, spent}
+use Rattle.lists.specs.Bytes.{LeftBytes}
+use Rattle.writing.specs.Writing.{Outcome, outcome}
 use Rattle.demands.specs.Holds.{listingIn, Holds}
+use Rattle.demands.specs.Accepted.{Accepted}
 
--- an image that a list leaves holds the entries promised
-pub left-holds : (l m : List ℕ) (es : List Entry) (cost bound : ℕ) → badImage (length l) ≡ false → LeftBytes l m es cost bound → Holds m es
+-- ---- what is carried
+
+-- "Cut after any number of steps": the image left by a cut of the list that o tells has the entries fs
+abbrev pub CutLeft : List ℕ → Outcome → ℕ → List ℕ → List Entry → Type 0
+CutLeft l o n arrivals fs =
+    LeftBytes l (cutOf l (o .list) n arrivals .image) fs (perLine * lineWrites (stepAt (o .list)) n)
+    (phi (leaves l) (chainOf l) + perCut)
+
+pub record Carried (l : List ℕ) (o : Outcome) (es : List Entry) (price : ℕ) : Type 0 where
+  pub fine : badImage (length l) ≡ false
+  pub accepted : runOf l (o .list) (o .steps) .answer ≡ 0
+  pub settled : AllSettled rule01 (stepAt (o .list)) (o .steps)
+  pub whole : LeftBytes l (runOf l (o .list) (o .steps) .image) es (perLine * lineWrites (stepAt (o .list)) (o .steps))
+      (phi (leaves l) (chainOf l) + price)
+  pub cuts : (n : ℕ) (arrivals : List ℕ) → n ≤ o .steps → cutOf l (o .list) n arrivals .answer ≡ 0
+      → CutLeft l o n arrivals (entriesIn l) ⊎ CutLeft l o n arrivals es
+  pub lines : o .lines ≤ 8
+
+-- an image that is left holds the entries promised
+pub left-holds : {l m : List ℕ} {es : List Entry} {cost bound : ℕ} → badImage (length l) ≡ false → LeftBytes l m es cost bound
+    → Holds m es
 unfolding entriesIn
-left-holds l m es cost bound fine L =
+left-holds {l} {m} {es} {cost} {bound} fine L =
     let f : badImage (length m) ≡ false = ap badImage (L .long) ∙ fine in
     let s : SoundImage m = record { chain = L .left .chain; sound = L .left .sound } in
     let q : entriesIn m ≡ es = ap (listOf (leaves m)) (sound-chain m (L .left .chain) f (L .left .sound)) ∙ L .left .list in
@@ -45,58 +66,80 @@ left-holds l m es cost bound fine L =
       lists = λ from ks vs. listing-accepted m f s from ks vs ∙ ap (λ (fs : List Entry). listingIn fs from ks vs) q;
     }
 
-module _ (l list : List ℕ) (t : List Step) (bs : List ℕ) (es : List Entry) (price : ℕ) (fine : badImage (length l) ≡ false)
-    (room : 112 ≤ length list) (few : length t ≤ 56) (before : listOf (leaves l) bs ≡ entriesIn l) (S : ServedBytes rule01 l bs t es price) where
-  passes : (n : ℕ) → n ≤ length t → Passed (length l) (written t list) n
+-- ---- by way of the words written
+
+module _ (l list : List ℕ) (o : Outcome) (es : List Entry) (price : ℕ) (A : Accepted l list o es price) where
+  abbrev t : List Step
+  t = A .made
+
+  abbrev words : List ℕ
+  words = written t list
+
+  abbrev bound : ℕ → ℕ
+  bound more = phi (leaves l) (chainOf l) + more
+
+  passes : (n : ℕ) → n ≤ length t → Passed (length l) words n
   passes n h =
-      let z = good-length l fine in
-      written-passed (length l) t list n (omega (arith, z .whole, z .some)) (omega (arith, z .whole, z .most)) (omega (arith, z .whole)) (S .inside) few
-      (omega arith)
-      h
+      let z = good-length l (A .fine) in
+      written-passed (length l) t list n (omega (arith, z .whole, z .some)) (omega (arith, z .whole, z .most))
+      (omega (arith, z .whole)) (A .served .inside) (A .few) (omega (arith, A .room, A .few)) h
 
-  same : Agree (stepAt (written t list)) (stepsOf t) (length t)
-  same i h = let z = good-length l fine in written-step (length l) (omega (arith, z .whole, z .most)) t list (S .inside) i h
+  same : Agree (stepAt words) (stepsOf t) (length t)
+  same i h =
+      let z = good-length l (A .fine) in
+      written-step (length l) (omega (arith, z .whole, z .most)) t list (A .served .inside) i h
 
-  back : Agree (stepsOf t) (stepAt (written t list)) (length t)
-  back i h = sym (same i h)
-
-  pub run-answers : runOf l (written t list) (length t) .answer ≡ 0
-  run-answers = run-accepted l (written t list) (length t) (passes (length t) (omega arith)) .0
-
-  pub run-left : LeftBytes l (runOf l (written t list) (length t) .image) es (spent t (length t)) (phi (leaves l) bs + price)
-  run-left =
-      subst (λ (m : List ℕ). LeftBytes l m es (spent t (length t)) (phi (leaves l) bs + price))
-      (sym (run-accepted l (written t list) (length t) (passes (length t) (omega arith)) .1
-      ∙ run-cong (stepAt (written t list)) (stepsOf t) storeWord l (length t) same))
-      (S .whole)
-
-  pub run-holds : Holds (runOf l (written t list) (length t) .image) es
-  run-holds = left-holds l _ es _ _ fine run-left
-
-  pub run-settles : AllSettled rule01 (stepAt (written t list)) (length t)
-  run-settles = all-settled-cong (stepsOf t) (stepAt (written t list)) rule01 (length t) back (S .settled)
-
-  pub cut-left : (n : ℕ) (arrivals : List ℕ) → n ≤ length t → cutOf l (written t list) n arrivals .answer ≡ 0
-      → LeftBytes l (cutOf l (written t list) n arrivals .image) (listOf (leaves l) bs) (spent t n) (phi (leaves l) bs + 42)
-      ⊎ LeftBytes l (cutOf l (written t list) n arrivals .image) es (spent t n) (phi (leaves l) bs + 42)
-  cut-left n arrivals h e =
-      let p = cut-passed l (written t list) n arrivals e in
-      let a = arrived arrivals in
-      subst
-      (λ (m : List ℕ). LeftBytes l m (listOf (leaves l) bs) (spent t n) (phi (leaves l) bs + 42) ⊎ LeftBytes l m es (spent t n) (phi (leaves l) bs + 42))
-      (sym (cut-accepted l (written t list) n arrivals (p .0) (p .1) .1
-      ∙ cut-cong (stepAt (written t list)) (stepsOf t) storeWord line a l n (λ i b. same i (omega arith))))
-      (S .cuts n a h
-      (permitted-cong (stepsOf t) (stepAt (written t list)) line lines-in-lines rule01 lawful01 n a (λ i b. back i (omega arith)) (p .1 .permitted)))
-
-  pub cut-holds : (n : ℕ) (arrivals : List ℕ) → n ≤ length t → cutOf l (written t list) n arrivals .answer ≡ 0
-      → Holds (cutOf l (written t list) n arrivals .image) (entriesIn l) ⊎ Holds (cutOf l (written t list) n arrivals .image) es
-  cut-holds n arrivals h e = elim (cut-left n arrivals h e) [
-    | inl x ↦ inl (subst (λ (fs : List Entry). Holds (cutOf l (written t list) n arrivals .image) fs) before (left-holds l _ _ _ _ fine x))
-    | inr x ↦ inr (left-holds l _ es _ _ fine x)
-  ]
+  back : (n : ℕ) → n ≤ length t → Agree (stepsOf t) (stepAt words) n
+  back n h i b = sym (same i (omega arith))
 
   -- the line writes of the words are those of the steps
-  pub same-lines : (n : ℕ) → n ≤ length t → lineWrites (stepAt (written t list)) n ≡ lineWrites (stepsOf t) n
-  same-lines n h =
-      count-cong (λ i. isLineWrite (stepAt (written t list) i)) (λ i. isLineWrite (stepsOf t i)) n (λ i b. ap isLineWrite (same i (omega arith)))
+  same-cost : (n : ℕ) → n ≤ length t → spent t n ≡ perLine * lineWrites (stepAt words) n
+  same-cost n h =
+      ap (λ (k : ℕ). perLine * k)
+      (count-cong (λ i. isLineWrite (stepsOf t i)) (λ i. isLineWrite (stepAt words i)) n (λ i b. ap isLineWrite (back n h i b)))
+
+  run-left : LeftBytes l (runOf l words (length t) .image) es (perLine * lineWrites (stepAt words) (length t)) (bound price)
+  run-left =
+      let e = run-accepted l words (length t) (passes (length t) (omega arith)) .1
+      ∙ run-cong (stepAt words) (stepsOf t) storeWord l (length t) same in
+      subst (λ (c : ℕ). LeftBytes l (runOf l words (length t) .image) es c (bound price)) (same-cost (length t) (omega arith))
+      (subst (λ (m : List ℕ). LeftBytes l m es (spent t (length t)) (bound price)) (sym e) (A .served .whole))
+
+  cut-left : (n : ℕ) (arrivals : List ℕ) → n ≤ length t → cutOf l words n arrivals .answer ≡ 0
+      → CutLeft l (outcome 0 t list) n arrivals (entriesIn l) ⊎ CutLeft l (outcome 0 t list) n arrivals es
+  unfolding entriesIn
+  cut-left n arrivals h e =
+      elim (A .served .cuts n (arrived arrivals) h permitted) [ inl x ↦ inl (at-cut _ x) | inr x ↦ inr (at-cut es x) ]
+    where
+      p : Passed (length l) words n × Arrived l words n arrivals
+      p = cut-passed l words n arrivals e
+
+      permitted : Permitted line rule01 (stepsOf t) n (arrived arrivals)
+      permitted =
+          permitted-cong (stepsOf t) (stepAt words) line lines-in-lines rule01 lawful01 n (arrived arrivals) (back n h)
+          (p .1 .permitted)
+
+      image-is : cutOf l words n arrivals .image ≡ cut storeWord line (stepsOf t) (arrived arrivals) l n
+      image-is =
+          cut-accepted l words n arrivals (p .0) (p .1) .1
+          ∙ cut-cong (stepAt words) (stepsOf t) storeWord line (arrived arrivals) l n (λ i b. same i (omega arith))
+
+      at-cut : (fs : List Entry)
+          → LeftBytes l (cut storeWord line (stepsOf t) (arrived arrivals) l n) fs (spent t n) (bound perCut)
+          → CutLeft l (outcome 0 t list) n arrivals fs
+      at-cut fs L =
+          subst (λ (c : ℕ). LeftBytes l (cutOf l words n arrivals .image) fs c (bound perCut)) (same-cost n h)
+          (subst (λ (m : List ℕ). LeftBytes l m fs (spent t n) (bound perCut)) (sym image-is) L)
+
+  pub carried : Carried l o es price
+  carried =
+      subst (λ (x : Outcome). Carried l x es price) (sym (A .told))
+      (record {
+        fine = A .fine;
+        accepted = run-accepted l words (length t) (passes (length t) (omega arith)) .0;
+        settled = all-settled-cong (stepsOf t) (stepAt words) rule01 (length t) (back (length t) (omega arith))
+            (A .served .settled);
+        whole = run-left;
+        cuts = cut-left;
+        lines = A .lines;
+      })

@@ -123,8 +123,16 @@ case n ws rows = record { blocks = n; stored = ws; rows = rows }
 abbrev pub puts : ℕ → ℕ → ℕ → ℕ → Row
 puts k steps lines words = row (does (put k 100)) (0 ∷ steps ∷ lines ∷ words ∷ [])
 
--- "Keys 1 to 14 put in order: the puts of 4 and 8 take 14 steps, (..) that of 12 takes 12, the other eleven 5 each; 17 line writes in
--- all."
+-- a refused call
+abbrev pub refuses : Call → ℕ → Row
+refuses call n = row (does call) (n ∷ 0 ∷ 0 ∷ 0 ∷ [])
+
+-- an occupied slot of a block, with its key
+abbrev pub holds : ℕ → ℕ → ℕ → Row
+holds b s k = row (slot b s) (1 ∷ k ∷ [])
+
+-- "Keys 1 to 14 put in order: the puts of 4 and 8 take 14 steps, (..) that of 12 takes 12, the other eleven 5 each; 17 line
+-- writes in all."
 abbrev pub fourteen : List Row
 fourteen =
     puts 1 5 1 3 ∷ puts 2 5 1 3 ∷ puts 3 5 1 3 ∷ puts 4 14 2 10 ∷ puts 5 5 1 3 ∷ puts 6 5 1 3 ∷ puts 7 5 1 3 ∷ puts 8 14 2 10
@@ -147,18 +155,17 @@ table =
     -- P2, P3; "P4 Then put 15: 42 steps, 6 line writes, 34 word writes; 8 to 14 in slots 7 to 13, 15 in slot 6."
     ∷ case 2 [] (
     fourteen ++ puts 15 42 6 34
-    ∷ row (slot 1 6) (1 ∷ 15 ∷ []) ∷ row (slot 1 7) (1 ∷ 8 ∷ []) ∷ row (slot 1 8) (1 ∷ 9 ∷ []) ∷ row (slot 1 9) (1 ∷ 10 ∷ [])
-    ∷ row (slot 1 10) (1 ∷ 11 ∷ []) ∷ row (slot 1 11) (1 ∷ 12 ∷ []) ∷ row (slot 1 12) (1 ∷ 13 ∷ []) ∷ row (slot 1 13) (1 ∷ 14 ∷ []) ∷ []
+    ∷ holds 1 6 15 ∷ holds 1 7 8 ∷ holds 1 8 9 ∷ holds 1 9 10 ∷ holds 1 10 11 ∷ holds 1 11 12 ∷ holds 1 12 13 ∷ holds 1 13 14 ∷ []
     )
     -- "P5 Put 0 in its place: 47 steps, 7 line writes, 37 word writes, 0 in slot 0 of block 0."
-    ∷ case 2 [] (fourteen ++ puts 0 47 7 37 ∷ row (slot 0 0) (1 ∷ 0 ∷ []) ∷ [])
+    ∷ case 2 [] (fourteen ++ puts 0 47 7 37 ∷ holds 0 0 0 ∷ [])
     -- "P6 The same with N = 1: answer 6."
-    ∷ case 1 [] (fourteen ++ row (does (put 15 100)) (6 ∷ 0 ∷ 0 ∷ 0 ∷ []) ∷ row (does (put 0 100)) (6 ∷ 0 ∷ 0 ∷ 0 ∷ []) ∷ [])
+    ∷ case 1 [] (fourteen ++ refuses (put 15 100) 6 ∷ refuses (put 0 100) 6 ∷ [])
     -- "P7 Del of the only entry of a second leaf: one store, at 240 or 248 of block 0."
     ∷ case 2 (behind 1) (row (makes (del 1)) (0 ∷ 3 ∷ 1 ∷ 1 ∷ []) ∷ row (step 0) (240 ∷ 0 ∷ []) ∷ [])
     ∷ case 2 (behindAlt 1) (row (makes (del 1)) (0 ∷ 3 ∷ 1 ∷ 1 ∷ []) ∷ row (step 0) (248 ∷ 0 ∷ []) ∷ [])
     -- "P8 Sibling equal to N: answer 3. N − 1 pointing at a good leaf: sound."
-    ∷ case 2 ((30, 2) ∷ []) (row recovery (3 ∷ 0 ∷ 0 ∷ []) ∷ row (find 1) (3 ∷ 0 ∷ []) ∷ row (does (put 1 100)) (3 ∷ 0 ∷ 0 ∷ 0 ∷ []) ∷ [])
+    ∷ case 2 ((30, 2) ∷ []) (row recovery (3 ∷ 0 ∷ 0 ∷ []) ∷ row (find 1) (3 ∷ 0 ∷ []) ∷ refuses (put 1 100) 3 ∷ [])
     ∷ case 4 ((0, 32768) ∷ (31, 4) ∷ []) (row recovery (3 ∷ 0 ∷ 0 ∷ []) ∷ [])
     ∷ case 2 (behind 1) (row recovery (0 ∷ 2 ∷ 1 ∷ []) ∷ row (find 1) (0 ∷ 100 ∷ []) ∷ [])
     ∷ case 4 (behindAlt 3) (row recovery (0 ∷ 2 ∷ 1 ∷ []) ∷ row (find 1) (0 ∷ 100 ∷ []) ∷ [])
@@ -168,7 +175,9 @@ table =
     ∷ row (does (del last)) (0 ∷ 3 ∷ 1 ∷ 1 ∷ []) ∷ row (find last) (5 ∷ 0 ∷ []) ∷ row (find 0) (0 ∷ 100 ∷ []) ∷ []
     )
     -- "P10 Cut with n = 0 and all arrivals 0: image unchanged."
-    ∷ case 1 [] (row (makes (put 1 100)) (0 ∷ 5 ∷ 1 ∷ 3 ∷ []) ∷ row (cut 0 (replicate 4 0)) (0 ∷ []) ∷ row bytes (replicate 256 0) ∷ [])
+    ∷ case 1 [] (
+    row (makes (put 1 100)) (0 ∷ 5 ∷ 1 ∷ 3 ∷ []) ∷ row (cut 0 (replicate 4 0)) (0 ∷ []) ∷ row bytes (replicate 256 0) ∷ []
+    )
     ∷ case 2 (behind 1) (
     row (makes (del 1)) (0 ∷ 3 ∷ 1 ∷ 1 ∷ []) ∷ row (cut 0 (replicate 8 0)) (0 ∷ [])
     ∷ row bytes (image (behind 1) (replicate 512 0)) ∷ []

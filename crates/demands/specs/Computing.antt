@@ -22,10 +22,10 @@ use Rattle.lists.specs.FullLists.{putList, fullPut, goesUp, movedSlots, splitLi
 use Rattle.writing.specs.Writing.{putOf, delOf}
 
 unfoldable pub computing : Unit {0}
-unfolding reads wordAt storeAt field patched altIn fingerprintIn fingerprintOf isLocked isOccupied marked xorOfBytes cleared flipped
-    block occIn view count countTo holdsKey lowest lowestVacant slotOf closest leastFrom smallestOf atMost mostTo shares someTo
-    twinAt twins wrongAt isSettled decode written badImage badArrivals badList faultOf judged surveyed walk lookup slotsFrom
-    slotsOf entriesOf listOf copies targetFrom beforeFrom chainFrom chainOf entriesIn isSound findOf recoveryOf nearPut putAt
-    farPut filledHead copiesBeside plainPut unlinkList clearList isAlone delList putList fullPut goesUp movedSlots splitList putOf
-    delOf E.entriesIn
+unfolding reads wordAt storeAt field patched altIn fingerprintIn fingerprintOf isLocked isOccupied marked xorOfBytes cleared
+    flipped block occIn view count countTo holdsKey lowest lowestVacant slotOf closest leastFrom smallestOf atMost mostTo
+    shares someTo twinAt twins wrongAt isSettled decode written badImage badArrivals badList faultOf judged surveyed walk
+    lookup slotsFrom slotsOf entriesOf listOf copies targetFrom beforeFrom chainFrom chainOf entriesIn isSound findOf
+    recoveryOf nearPut putAt farPut filledHead copiesBeside plainPut unlinkList clearList isAlone delList putList fullPut
+    goesUp movedSlots splitList putOf delOf E.entriesIn
 computing = tt

@@ -1,5 +1,5 @@
--- The refusals, for every call at once. "given exactly when"; "Order: 1, 2, 8, 3, 4, 5, 6 as they apply; for run and cut 1, 7, 10. (..)
--- An accepted call answers 0. A refusal tells 0 for every count and value and changes no buffer."
+-- The refusals, for every call at once. "given exactly when"; "Order: 1, 2, 8, 3, 4, 5, 6 as they apply; for run and cut 1, 7,
+-- 10. (..) An accepted call answers 0. A refusal tells 0 for every count and value and changes no buffer."
 --
 -- `Calls` has each call's table, in that order; `Conditions` what the test in each row means.
 use mathlib.Core.Path.{_≡_, refl, sym, ap, _∙_}

@@ -1,5 +1,6 @@
--- "take the lowest block not in the chain", and document 01's slip "A leaf freed by del and never taken again": a block that is not in
--- the chain, whatever it holds, makes the next split find a free one, at most that block; and no put is refused for want of one.
+-- "take the lowest block not in the chain", and document 01's slip "A leaf freed by del and never taken again": a block that is
+-- not in the chain, whatever it holds, makes the next split find a free one, at most that block; and no put is refused for want of
+-- one.
 use mathlib.Core.Path.{_≡_, refl, sym, ap, _∙_}
 use mathlib.Core.Bool.{Bool, true, false, cond, not}
 use mathlib.Core.List.{List, [], _∷_}
@@ -52,10 +53,12 @@ module _ (l : List ℕ) where
           let F = free-lowest c e in
           (c, e, F, elim (decLt b c) [ yes lt ↦ absurd (F .lowest b lt a) | no ge ↦ omega arith ])
       go Missing e =
-          absurd (passed-over b (chainOf l) (lowest-none (λ x. not (isAmong x (chainOf l))) (blocks l) 0 e b (omega arith) (omega arith)) a)
+          let p = lowest-none (λ x. not (isAmong x (chainOf l))) (blocks l) 0 e b (omega arith) (omega arith) in
+          absurd (passed-over b (chainOf l) p a)
 
   -- so put never answers 6 while a block is out of the chain
-  pub never-wanting : (b : ℕ) → b < blocks l → All (λ x. x ≢ b) (chainOf l) → (list : List ℕ) (k v : ℕ) → putOf l list k v .answer ≢ 6
+  pub never-wanting : (b : ℕ) → b < blocks l → All (λ x. x ≢ b) (chainOf l) → (list : List ℕ) (k v : ℕ)
+      → putOf l list k v .answer ≢ 6
   unfolding putOf
   never-wanting b h a list k v =
       row-other (badImage (length l)) 1 _ 6 (λ e. omega arith)

@@ -10,14 +10,14 @@ use Rattle.image.specs.Image.{SoundImage}
 use Rattle.index.specs.Reading.{entriesIn, findOf, Listing, over, counted, listingIs, listingOf}
 use Rattle.index.specs.Agreement.{foundIn}
 
--- "keys and values, rising, of entries with that key or above, as many as the shorter of two lent buffers holds": of the plain map m
+-- "keys and values, rising, of entries with that key or above, as many as the shorter of two lent buffers holds": of the map m
 abbrev pub listingIn : List Entry → ℕ → List ℕ → List ℕ → Listing
 listingIn m from ks vs =
     let es = take (min (length ks) (length vs)) (startingAt from m) in
     listingIs (counted 0 (length es)) (over (map (λ e. e .key) es) ks) (over (map (λ e. e .val) es) vs)
 
--- The image is sound, of a length that no call refuses, and its map, as a rising list, is m: so any later call starts from a sound
--- image, and find and listing answer from m.
+-- The image is sound, of a length that no call refuses, and its map, as a rising list, is m: so any later call starts from a
+-- sound image, and find and listing answer from m.
 pub record Holds (image : List ℕ) (m : List Entry) : Type 0 where
   pub fine : badImage (length image) ≡ false
   pub sound : SoundImage image

@@ -1,9 +1,9 @@
--- The demands. To believe: Holds, and of Demand2 what stands above its theorem. Carried and Accepted join the calls' contracts with what
--- `lists` proves.
+-- The demands. To believe: Calls, Holds, and of each other file what stands above its theorem. Accepted, Free and Carried join
+-- the calls' contracts with what `lists` proves.
 pub mod Holds
 pub mod Free
-pub mod Carried
 pub mod Accepted
+pub mod Carried
 pub mod Demand2
 pub mod Demand3
 pub mod Calls

@@ -1,5 +1,5 @@
--- "Each public call's contract determines the answer, the counts and each byte of each lent buffer, for all inputs, refused ones too;
--- prove that two results allowed by it are equal."
+-- "Each public call's contract determines the answer, the counts and each byte of each lent buffer, for all inputs, refused ones
+-- too; prove that two results allowed by it are equal."
 use mathlib.Core.Path.{_≡_, refl, sym, ap, _∙_}
 use mathlib.Core.Bool.{cond}
 use mathlib.Core.List.{List}
@@ -7,7 +7,12 @@ use Prim.Native.Nat.{ℕ}
 use lib.Dec.{eqb}
 use Rattle.machine.specs.CallLaws.{answer-of}
 use Rattle.index.specs.declared.find.Found.{Found}
-use Rattle.index.specs.declared.find.Found.the-variants.{Value, BadImage as FoundBadImage, Unsound as FoundUnsound, Absent as FoundAbsent}
+use Rattle.index.specs.declared.find.Found.the-variants.{
+  Value,
+  BadImage as FoundBadImage,
+  Unsound as FoundUnsound,
+  Absent as FoundAbsent,
+}
 use Rattle.index.specs.declared.listing.Listed.{Listed}
 use Rattle.index.specs.declared.listing.Listed.the-variants.{Count, BadImage as ListedBadImage, Unsound as ListedUnsound}
 use Rattle.index.specs.declared.recovery.Recovered.{Recovered}
@@ -36,7 +41,8 @@ same shown g a b e = sym (g .1 a) ∙ ap (g .0) e ∙ g .1 b
 
 abbrev foundFrom : Told → Found
 foundFrom t =
-    cond (eqb (t .answer) 0) (Value (t .value)) (cond (eqb (t .answer) 1) FoundBadImage (cond (eqb (t .answer) 3) FoundUnsound FoundAbsent))
+    cond (eqb (t .answer) 0) (Value (t .value))
+    (cond (eqb (t .answer) 1) FoundBadImage (cond (eqb (t .answer) 3) FoundUnsound FoundAbsent))
 
 found-again : (r : Found) → foundFrom (foundAs r) ≡ r
 found-again (Value v) = refl
@@ -90,7 +96,8 @@ made-list Full list = refl
 
 made-same : (r s : Made × List ℕ) → madeAs (r .0) (r .1) ≡ madeAs (s .0) (s .1) → r ≡ s
 made-same =
-    same (λ r. madeAs (r .0) (r .1)) ((λ o. (madeFrom o, o .list)), λ r. λ i. (made-again (r .0) (r .1) i, made-list (r .0) (r .1) i))
+    same (λ r. madeAs (r .0) (r .1))
+    ((λ o. (madeFrom o, o .list)), λ r. λ i. (made-again (r .0) (r .1) i, made-list (r .0) (r .1) i))
 
 -- ---- THE STATEMENT
 
@@ -101,7 +108,8 @@ one-result (listing image from keys values) r s p q =
     ((λ (o : Listing). (listedFrom (o .told), o .keys, o .values)), λ x. λ i. (listed-again (x .0) i, x .1, x .2)) r s (p ∙ sym q)
 one-result (recovery image smallest numbers) r s p q =
     same (λ (x : Recovered × List ℕ × List ℕ). recoveryIs (recoveredAs (x .0)) (x .1) (x .2))
-    ((λ (o : Recovery). (recoveredFrom (o .told), o .smallest, o .blocks)), λ x. λ i. (recovered-again (x .0) i, x .1, x .2)) r s (p ∙ sym q)
+    ((λ (o : Recovery). (recoveredFrom (o .told), o .smallest, o .blocks)), λ x. λ i. (recovered-again (x .0) i, x .1, x .2)) r s
+    (p ∙ sym q)
 one-result (put image list key value) r s p q = made-same r s (p ∙ sym q)
 one-result (set image list key value) r s p q = made-same r s (p ∙ sym q)
 one-result (del image list key) r s p q = made-same r s (p ∙ sym q)
