@@ -19,7 +19,7 @@ use Rattle.image.specs.ChainLaws.{Agree, all-split}
 use Rattle.image.specs.Image.{leaves, SoundImage, Alike}
 use Rattle.image.specs.ImageLaws.{alike-agree}
 use Rattle.verdict.specs.Place.{reachesTo, targetFrom}
-use Rattle.index.specs.Rows.{row-given}
+use Rattle.steps.specs.Refusals.{row-given}
 use Rattle.index.specs.Reading.{isSound, chainOf, entriesIn, isNone, Told as Found, Listing, Recovery}
 use Rattle.index.specs.SoundTest.{sound-test, sound-chain}
 use Rattle.index.specs.Agreement.{foundIn, find-accepted}

@@ -18,5 +18,6 @@ pub mod Put
 pub mod AfterSplit
 -- In bytes: demand 2 and the rows of demand 3.
 pub mod Bytes
+pub mod Calls
 -- The slips that document 01 names, computed.
 pub mod Slips
