@@ -11,6 +11,7 @@ use Rattle.header.specs.Header.{marked, cleared, fingerprintOf}
 use Rattle.leaf.specs.Leaf.{Leaf, occIn}
 use Rattle.steps.specs.declared.Step.{Step}
 use Rattle.image.specs.Copies.{Copy, copies}
+use Rattle.lists.specs.Beside.{copy-length}
 use Rattle.lists.specs.Lists.{copySteps, copiedHead, copiesBeside, filledHead, entrySteps, lastBeside}
 use Rattle.emit.specs.Appended.{appended, appended-length, stretch-more}
 
@@ -58,10 +59,6 @@ module _ (L : Leaf) where
   steps-append b [] l = refl
   steps-append b (c ∷ k) l = ap (λ (r : List Step). entrySteps b (c .to) (L .key (c .from)) (L .val (c .from)) ++ r)
       (steps-append b k l)
-
-  pub steps-length : (b : ℕ) (k : List Copy) → length (copySteps L b k) ≡ 2 * length k
-  steps-length b [] = refl
-  steps-length b (c ∷ k) = omega (arith, steps-length b k)
 
   pub head-append : (h : ℕ) (k l : List Copy) → copiedHead L h (k ++ l) ≡ copiedHead L (copiedHead L h k) l
   head-append h [] l = refl
@@ -124,7 +121,7 @@ module _ (h : ℕ) (L : Leaf) (b s at : ℕ) (before : List ℕ) where
       let ds = copies (occIn h) from t 1 in
       let e : copied h s (t + 1) ≡ copied h s t ++ ds =
       copied-more h s t l ∙ ap (λ (i : ℕ). copied h s t ++ copies (occIn h) i t 1) (sym (c .number)) in
-      let n : length (copySteps L b (copied h s t)) ≡ 2 * length (copied h s t) = steps-length L b (copied h s t) in
+      let n : length (copySteps L b (copied h s t)) ≡ 2 * length (copied h s t) = copy-length L b (copied h s t) in
       record {
         steps = stretch-more before list at (at + 2 * from) (copySteps L b (copied h s t)) (c .steps)
             (omega (arith, c .number)) r

@@ -12,10 +12,10 @@ use Rattle.steps.specs.declared.Step.{Step}
 use Rattle.steps.specs.declared.Step.the-variants.{Store as store, WriteBack as writeBack, Fence as fence}
 use Rattle.steps.specs.Model.{line}
 use Rattle.steps.specs.Shapes.{oneStore}
+use Rattle.lists.specs.Beside.{copy-length}
 use Rattle.lists.specs.Lists.{wordPlace, keyPlace, lowWord, highWord, entrySteps, copySteps, copiesBeside, filledHead}
 use Rattle.lists.specs.Lists.{nearPut, farPut, putAt, putFound, plainPut}
 use Rattle.emit.specs.Appended.{appended, Wrote, stretch-more}
-use Rattle.emit.specs.CopyLaws.{steps-length}
 
 -- a line written back, and a fence
 abbrev pub settling : ℕ → List Step
@@ -30,7 +30,7 @@ module _ (h : ℕ) (L : Leaf) (b s k v : ℕ) where
   unfolding farPut
   far-length =
       length-append (entrySteps b s k v ++ copySteps L b (copiesBeside h s)) _
-      ∙ omega (arith, steps-length L b (copiesBeside h s))
+      ∙ omega (arith, copy-length L b (copiesBeside h s))
 
   pub far-put : (at n g : ℕ) (l0 l1 l2 l3 l4 : List ℕ) → l1 ≡ appended l0 at (entrySteps b s k v)
       → l2 ≡ appended l1 (at + 2) (copySteps L b (copiesBeside h s)) → n ≡ length (copiesBeside h s)
@@ -42,7 +42,7 @@ module _ (h : ℕ) (L : Leaf) (b s k v : ℕ) where
       let E = entrySteps b s k v in
       let C = copySteps L b (copiesBeside h s) in
       let S = settling (line (keyPlace b s)) in
-      let m : length (E ++ C) ≡ 2 + 2 * n = omega (arith, length-append E C, steps-length L b (copiesBeside h s)) in (
+      let m : length (E ++ C) ≡ 2 + 2 * n = omega (arith, length-append E C, copy-length L b (copiesBeside h s)) in (
         stretch-more l0 l3 at (at + 2 + 2 * n + 2) ((E ++ C) ++ S)
             (stretch-more l0 l2 at (at + 2 + 2 * n) (E ++ C) (stretch-more l0 l1 at (at + 2) E e1 refl l2 C e2)
             (omega arith) l3 S e3)

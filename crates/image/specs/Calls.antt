@@ -18,8 +18,7 @@ use Rattle.image.specs.Same.{Slots, Same, slots-in, slots-sym, slots-fil
 use Rattle.image.specs.Edits.{erase, insert, Absent, insert-new, taken-insert}
 use Rattle.image.specs.CountLaws.{count-erase, count-insert, count-filled, count-only, count-slots}
 use Rattle.image.specs.EditMaps.{Gives, Keeps, keeps-refl, gives-keeps, gives-slots, erase-gives, insert-gives}
-use Rattle.image.specs.EditMaps.{set-gives}
-use Rattle.image.specs.EditMaps.{moves, Fits, moves-keeps}
+use Rattle.image.specs.EditMaps.{set-gives, moves, Fits, moves-keeps}
 use Rattle.image.specs.Copies.{Copy}
 use Rattle.image.specs.Parting.{Parts, Halves, halves-plain, halves-new, halves-slots}
 use Rattle.image.specs.Changes.{one-leaf, unlink, split-leaf, agree-around}

@@ -10,7 +10,6 @@ use native.Mathlib.Omega.{arith}
 use borrow.Author.Tests.{eqb-false, ltb-false, eqb-true, ne-eqb, eq-eqb, le-ltb}
 use lib.Dec.{ltb, eqb}
 use lib.ListN.{replicate, length-replicate, getD-replicate, List·getD-eq-default, length}
-use Rattle.image.specs.PotentialLaws.{sum-agree}
 use Rattle.words.specs.Words.{wordAt, reads}
 use Rattle.words.specs.Bools.{differ}
 use Rattle.header.specs.Header.{fingerprintOf}
@@ -18,8 +17,9 @@ use Rattle.leaf.specs.Leaf.{Leaf, Taken, leafOf, block, view}
 use Rattle.leaf.specs.LeafLaws.{block-at, block-past}
 use Rattle.leaf.specs.Search.{count}
 use Rattle.leaf.specs.SearchLaws.{count-zero}
-use Rattle.image.specs.Chain.{All, Links, Has, Sound}
 use Rattle.steps.specs.Refusals.{badImage}
+use Rattle.image.specs.PotentialLaws.{sum-agree}
+use Rattle.image.specs.Chain.{All, Links, Has, Sound}
 use Rattle.image.specs.Image.{blocks, leaves, SoundImage, Blank, AlikeLeaf, Alike}
 use Rattle.image.specs.Same.{Same}
 use Rattle.image.specs.ChainLaws.{Good, sound-good, good-sound, Agree}

@@ -18,8 +18,7 @@ use Rattle.image.specs.Chain.{All, Distinct, Filled}
 use Rattle.image.specs.ChainLaws.{all-map, all-zip}
 use Rattle.image.specs.Same.{Slots, slots-sym, slots-in, slots-right, slots-filled, own, in-unique}
 use Rattle.image.specs.Edits.{erase, insert, Absent, insert-new, taken-erase, erase-taken, erase-right}
-use Rattle.image.specs.Edits.{in-erase, erase-in}
-use Rattle.image.specs.Edits.{in-new, in-insert, insert-in}
+use Rattle.image.specs.Edits.{in-erase, erase-in, in-new, in-insert, insert-in}
 use Rattle.image.specs.CountLaws.{count-erase, count-insert, count-filled, count-slots}
 use Rattle.image.specs.EditMaps.{Gives, insert-gives}
 use Rattle.image.specs.Order.{KeysRise, Upper}

@@ -8,8 +8,7 @@ use Rattle.leaf.specs.Leaf.{Leaf}
 use Rattle.image.specs.Map.{SameMap, Altered}
 use Rattle.image.specs.Chain.{All, Links, Starts, Distinct, Has, Rising, Sound}
 use Rattle.image.specs.ChainLaws.{all-split, all-join, links-split, links-join, has-left, has-right, has-split}
-use Rattle.image.specs.ChainLaws.{Below}
-use Rattle.image.specs.ChainLaws.{rising-split, rising-join, Good, sound-good, good-sound}
+use Rattle.image.specs.ChainLaws.{Below, rising-split, rising-join, Good, sound-good, good-sound}
 use Rattle.image.specs.ChainLaws.{Agree, agree-links, agree-has, agree-map, agree-goods, agree-rising}
 
 -- ---- around a stretch M of a sound chain

@@ -7,8 +7,7 @@ use mathlib.Core.Logic.{inl, inr, _≢_}
 use Prim.Native.Nat.{ℕ, _<_}
 use Rattle.leaf.specs.Leaf.{Leaf, In}
 use Rattle.image.specs.Chain.{All, Links, Distinct, Has, Rising, Sound}
-use Rattle.image.specs.ChainLaws.{all-split, all-join, all-map, links-join, distinct-at, rising-split}
-use Rattle.image.specs.ChainLaws.{rising-join}
+use Rattle.image.specs.ChainLaws.{all-split, all-join, all-map, links-join, distinct-at, rising-split, rising-join}
 use Rattle.image.specs.ChainLaws.{Good, sound-good, good-sound}
 
 -- the list bs has xs and then m at its start

@@ -18,9 +18,7 @@ use Rattle.image.specs.Edits.{erase, insert, Absent}
 use Rattle.image.specs.CountLaws.{count-slots, count-erase, count-insert}
 use Rattle.image.specs.Calls.{set-sound, del-sound, put-sound, del-unlink}
 use Rattle.image.specs.Blocks.{view-slot, Only, only-refl, only-store, only-view, only-others, putEntry}
-use Rattle.image.specs.Blocks.{withVal, leaf-put}
-use Rattle.image.specs.Blocks.{leaf-del, leaf-set}
-use Rattle.image.specs.Blocks.{slots-set, Relinked, leaf-relink}
+use Rattle.image.specs.Blocks.{withVal, leaf-put, leaf-del, leaf-set, slots-set, Relinked, leaf-relink}
 
 -- what is stored
 abbrev pub setWords : (ℕ → ℕ) → ℕ → ℕ → ℕ → ℕ → ℕ

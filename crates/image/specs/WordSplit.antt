@@ -25,11 +25,9 @@ use Rattle.image.specs.Edits.{insert, Absent}
 use Rattle.image.specs.CountLaws.{count-slots, count-insert}
 use Rattle.image.specs.Order.{Upper}
 use Rattle.image.specs.Parting.{emptyLeaf, thin, gather, Parts, upper-parts, parts-absent, parts-count}
-use Rattle.image.specs.Parting.{thin-rest, gather-vacant}
-use Rattle.image.specs.Parting.{gather-rest, gathered, gathered-all}
+use Rattle.image.specs.Parting.{thin-rest, gather-vacant, gather-rest, gathered, gathered-all}
 use Rattle.image.specs.Calls.{split-sound, split-put, split-target, Divided}
-use Rattle.image.specs.Stored.{Stored, storedOf, readOf, withHead, insertS, gatherS, emptyS}
-use Rattle.image.specs.Stored.{read-insert, read-thin}
+use Rattle.image.specs.Stored.{Stored, storedOf, readOf, withHead, insertS, gatherS, emptyS, read-insert, read-thin}
 use Rattle.image.specs.Stored.{alt-clear-all, read-gather, read-empty}
 use Rattle.image.specs.Blocks.{view-slot, Only, only-refl, only-store, only-view, Relinked, leaf-switch}
 

@@ -7,14 +7,13 @@ use mathlib.Core.Option.{Option, some, none}
 use Prim.Native.Nat.{ℕ, zero, suc, min, _≤_}
 use lib.ListN.{length, take}
 use Rattle.leaf.specs.Search.{smallestOf}
-use Rattle.steps.specs.Refusals.{badImage}
+use Rattle.steps.specs.Refusals.{badImage, row-left}
 use Rattle.image.specs.Map.{Entry, Sorted, Lists, lookup, startingAt}
 use Rattle.image.specs.ListLaws.{starting-lists, lookup-some, lookup-none}
 use Rattle.image.specs.Entries.{listOf, chain-lists}
 use Rattle.image.specs.Image.{blocks, leaves, SoundImage, mapOf}
 use Rattle.index.specs.Reading.{chainOf, entriesIn, Told, told, findOf, over, counted, listingIs, listed, listingOf}
 use Rattle.index.specs.Reading.{sizes, recoveryIs, isShort, recoveryOf}
-use Rattle.steps.specs.Refusals.{row-left}
 use Rattle.index.specs.SoundTest.{sound-test, sound-chain}
 use Rattle.index.specs.FindLaws.{findBy}
 use Rattle.index.specs.ListingLaws.{listingOn}

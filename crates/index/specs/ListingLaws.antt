@@ -16,16 +16,15 @@ use Rattle.leaf.specs.Search.{leastFrom}
 use Rattle.leaf.specs.SearchLaws.{least-at}
 use Rattle.leaf.specs.declared.search.Slot.{Slot}
 use Rattle.leaf.specs.declared.search.Slot.the-variants.{At, Missing}
-use Rattle.steps.specs.Refusals.{badImage}
+use Rattle.steps.specs.Refusals.{badImage, row-given, row-left}
+use Rattle.survey.specs.Walk.{surveyed}
 use Rattle.image.specs.Map.{Entry, startingAt}
 use Rattle.image.specs.Chain.{All}
 use Rattle.image.specs.Image.{blocks, leaves}
 use Rattle.image.specs.Order.{slotsFrom, slotsOf}
 use Rattle.image.specs.Entries.{entryIn, entriesIn, entriesOf, listOf, list-from}
-use Rattle.survey.specs.Walk.{surveyed}
 use Rattle.index.specs.Reading.{chainFrom, entriesIn as inMap, over}
 use Rattle.index.specs.Reading.{counted, listedAs, Listing, listingIs, listed, listingOf}
-use Rattle.steps.specs.Refusals.{row-given, row-left}
 use Rattle.index.specs.SoundTest.{says-yes, says-no, noted-target}
 use Rattle.index.specs.Filling.{Buffers, buffers, fill, fill-full, fill-one, fill-append, fill-whole}
 use Rattle.index.specs.Along.{chain-on, chain-last, chain-over}

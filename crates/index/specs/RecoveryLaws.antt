@@ -12,17 +12,16 @@ use lib.Seq.{take-all}
 use Rattle.words.specs.Bools.{by-test, differ}
 use Rattle.leaf.specs.Leaf.{Leaf}
 use Rattle.leaf.specs.Search.{smallestOf}
-use Rattle.steps.specs.Refusals.{badImage}
+use Rattle.steps.specs.Refusals.{badImage, row-given, row-left}
+use Rattle.survey.specs.Walk.{surveyed}
 use Rattle.image.specs.Map.{Entry, entry}
 use Rattle.image.specs.Chain.{All}
 use Rattle.image.specs.ChainSize.{chain-short, chain-near}
 use Rattle.image.specs.Entries.{listOf, chain-length}
 use Rattle.image.specs.Image.{blocks, leaves}
 use Rattle.image.specs.ImageLaws.{good-length}
-use Rattle.survey.specs.Walk.{surveyed}
 use Rattle.index.specs.Reading.{chainFrom, chainOf, entriesIn, over}
 use Rattle.index.specs.Reading.{sizes, recoveredAs, Recovery, recoveryIs, isShort, recoveryOf}
-use Rattle.steps.specs.Refusals.{row-given, row-left}
 use Rattle.index.specs.SoundTest.{survey-sound, says-yes, says-no, sound-chain}
 use Rattle.index.specs.Filling.{Buffers, buffers, fill, fill-one, fill-whole}
 use Rattle.index.specs.Along.{chain-on, chain-last, chain-over}

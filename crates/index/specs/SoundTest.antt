@@ -10,6 +10,8 @@ use lib.ListN.{length, length-append}
 use Rattle.words.specs.Words.{reads}
 use Rattle.leaf.specs.Leaf.{Leaf, Taken}
 use Rattle.steps.specs.Refusals.{badImage}
+use Rattle.survey.specs.Walk.{surveyed}
+use Rattle.survey.specs.Turns.{Bounded, surveyed-bounded}
 use Rattle.image.specs.Chain.{All, Links, Sound}
 use Rattle.image.specs.ChainLaws.{all-split, links-split}
 use Rattle.image.specs.ChainSize.{Later, chain-short, chain-near, sound-later}
@@ -17,8 +19,6 @@ use Rattle.image.specs.Image.{blocks, leaves, SoundImage}
 use Rattle.image.specs.ImageLaws.{good-length}
 use Rattle.image.specs.Blocks.{view-slot, view-size}
 use Rattle.image.specs.Target.{Target}
-use Rattle.survey.specs.Walk.{surveyed}
-use Rattle.survey.specs.Turns.{Bounded, surveyed-bounded}
 use Rattle.verdict.specs.Notes.{Notes, Aim, nowhere, here, lastOf}
 use Rattle.verdict.specs.Verdict.{says-sound, sound-says}
 use Rattle.index.specs.Reading.{isSound, chainFrom, chainOf}

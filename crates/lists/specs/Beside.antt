@@ -74,7 +74,7 @@ copies-few occ (suc n) i t =
     (λ e. omega (arith, copies-few occ n i (suc t)))
     (λ e. omega (arith, copies-few occ n (suc i) (suc t)))
 
-copy-length : (L : Leaf) (b : ℕ) (cs : List Copy) → length (copySteps L b cs) ≡ 2 * length cs
+pub copy-length : (L : Leaf) (b : ℕ) (cs : List Copy) → length (copySteps L b cs) ≡ 2 * length cs
 copy-length L b [] = refl
 copy-length L b (c ∷ cs) = omega (arith, copy-length L b cs)
 

@@ -38,8 +38,7 @@ use Rattle.image.specs.Changes.{Stays, changed-stays}
 use Rattle.image.specs.Potential.{phi}
 use Rattle.image.specs.PotentialLaws.{phi-split}
 use Rattle.image.specs.WordSplit.{wordOf, Placed, splitImage, Splits, split-others, split-moved, split-words}
-use Rattle.image.specs.WordSplit.{split-put-words}
-use Rattle.image.specs.WordSplit.{split-old-count, split-new-count, split-put-count, split-room}
+use Rattle.image.specs.WordSplit.{split-put-words, split-old-count, split-new-count, split-put-count, split-room}
 use Rattle.image.specs.Answers.{put-list, stays-list}
 use Rattle.lists.specs.Lists.{wordPlace, lowWord, headIn}
 use Rattle.lists.specs.FullLists.{movedSlots, firstKey, goesUp, newWords, linkWord, linkStore}

@@ -13,8 +13,7 @@ use Rattle.steps.specs.BelowLaws.{count-le, count-from, count-cong}
 use Rattle.steps.specs.Model.{line, run, cut, Rule, isLineWrite, lineWrites}
 use Rattle.steps.specs.Settling.{Lawful}
 use Rattle.steps.specs.Section.{Section, section-cut}
-use Rattle.steps.specs.Concatenation.{from, run-cong}
-use Rattle.steps.specs.Concatenation.{run-from}
+use Rattle.steps.specs.Concatenation.{from, run-cong, run-from}
 use Rattle.steps.specs.Encoding.{stepsOf}
 use Rattle.steps.specs.Lists.{Each, each-append, at-left, at-right}
 use Rattle.steps.specs.Rules.{lines-in-lines}

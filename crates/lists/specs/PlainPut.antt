@@ -33,12 +33,10 @@ use Rattle.image.specs.Stretch.{Changed}
 use Rattle.image.specs.Entries.{listOf}
 use Rattle.image.specs.PotentialLaws.{phi-put}
 use Rattle.image.specs.WordCalls.{putWords, put-only, put-words, put-words-count}
-use Rattle.image.specs.WordMoves.{only-copies, newHead, movedImage, Moving, moved-prints, moved-words}
-use Rattle.image.specs.WordMoves.{moved-words-count}
+use Rattle.image.specs.WordMoves.{only-copies, newHead, movedImage, Moving, moved-prints, moved-words, moved-words-count}
 use Rattle.image.specs.Answers.{put-list}
 use Rattle.lists.specs.Lists.{wordPlace, keyPlace, valPlace, lowWord, highWord, headIn, entrySteps, nearPut}
-use Rattle.lists.specs.Lists.{lastBeside}
-use Rattle.lists.specs.Lists.{copiesBeside, filledHead, farStores, farBacks, highStore, farPut, putAt}
+use Rattle.lists.specs.Lists.{lastBeside, copiesBeside, filledHead, farStores, farBacks, highStore, farPut, putAt}
 use Rattle.lists.specs.Served.{perPut, Small, Proper, Served}
 use Rattle.lists.specs.Headers.{Fit, two-words, low-small, high-small, whole-fit, under-low, under-marked}
 use Rattle.lists.specs.Headers.{fit-marked, fit-copied}

@@ -30,8 +30,7 @@ use Rattle.image.specs.CountLaws.{filled-count}
 use Rattle.image.specs.Entries.{listOf}
 use Rattle.image.specs.Potential.{phi}
 use Rattle.image.specs.PotentialLaws.{phi-fewer, phi-unlink}
-use Rattle.image.specs.WordCalls.{setWords, delWords, unlinkWords, set-only, del-only, set-words, set-count}
-use Rattle.image.specs.WordCalls.{del-words}
+use Rattle.image.specs.WordCalls.{setWords, delWords, unlinkWords, set-only, del-only, set-words, set-count, del-words}
 use Rattle.image.specs.WordCalls.{del-count, unlink-only, unlink-view, unlink-words}
 use Rattle.image.specs.Answers.{put-list, del-list}
 use Rattle.lists.specs.Lists.{wordPlace, valPlace, sibPlace, lowWord, headIn, setList, unlinkList, clearList}

@@ -8,27 +8,25 @@ use mathlib.Core.List.{List, [], _∷_}
 use mathlib.Core.Path.{_≡_, refl, _∙_}
 use lib.ListN.{length, length-append, length-drop}
 use borrow.Author.Tests.{lt-ltb, le-ltb}
-use Rattle.steps.specs.Model.{isLineWrite, isWordWrite}
 use Rattle.words.specs.Bools.{by-test}
 use Rattle.leaf.specs.Leaf.{Leaf, occIn, view}
 use Rattle.leaf.specs.Search.{leastFrom, lowestVacant}
 use Rattle.leaf.specs.SearchLaws.{vacant-at}
 use Rattle.leaf.specs.declared.search.Slot.{Slot}
 use Rattle.leaf.specs.declared.search.Slot.the-variants.{At, Missing}
+use Rattle.steps.specs.Model.{isLineWrite, isWordWrite}
 use Rattle.steps.specs.declared.Step.the-variants.{Store as store}
 use Rattle.steps.specs.Lists.{Each, each-append}
 use Rattle.steps.specs.Stores.{storesFrom, stores-length}
+use Rattle.steps.specs.Shapes.{twoParts}
 use Rattle.image.specs.Copies.{Copy}
 use Rattle.image.specs.Order.{onward, slotsFrom, slotsOf}
 use Rattle.image.specs.Blocks.{view-size}
 use Rattle.lists.specs.Lists.{wordPlace, lowWord, headIn, copySteps, copiesBeside}
 use Rattle.lists.specs.Lists.{farStores, farBacks, setList, unlinkList, clearList, isAlone, delList, nearPut}
-use Rattle.lists.specs.Lists.{farPut, putAt}
-use Rattle.lists.specs.Lists.{putFound, plainPut}
+use Rattle.lists.specs.Lists.{farPut, putAt, putFound, plainPut}
 use Rattle.lists.specs.FullLists.{splitStores, splitBacks, switchedHead, movedSlots, goesUp, newWords}
-use Rattle.lists.specs.FullLists.{linkStore, splitList, putBelow, fullPut, after, entryWords, putInto}
-use Rattle.lists.specs.FullLists.{putList}
-use Rattle.steps.specs.Shapes.{twoParts}
+use Rattle.lists.specs.FullLists.{linkStore, splitList, putBelow, fullPut, after, entryWords, putInto, putList}
 use Rattle.lists.specs.Served.{linesOf, wordsOf}
 use Rattle.lists.specs.Parts.{total-append, IsStore, stores-lines, stores-words, parts-length, parts-total}
 use Rattle.lists.specs.Beside.{beside-few}

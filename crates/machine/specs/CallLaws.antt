@@ -18,10 +18,9 @@ use Rattle.steps.specs.Settling.{is-store, settled-made}
 use Rattle.steps.specs.Encoding.{inImage, stepAt, written}
 use Rattle.steps.specs.EncodingLaws.{written-formed, written-length}
 use Rattle.steps.specs.Lists.{Each}
-use Rattle.steps.specs.Refusals.{row-passed}
+use Rattle.steps.specs.Refusals.{row-passed, badImage}
 use Rattle.machine.specs.declared.Ran.{Ran}
 use Rattle.machine.specs.declared.Ran.the-variants.{Done, BadImage, BadList, BadArrivals}
-use Rattle.steps.specs.Refusals.{badImage}
 use Rattle.machine.specs.Calls.{numberOf, arrived, badList, outside, badArrivals, runOf, cutOf}
 use Rattle.machine.specs.Fits.{Passed, passed, passes, line-inside}
 

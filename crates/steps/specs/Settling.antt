@@ -10,8 +10,7 @@ use lib.Dec.{eqb}
 use borrow.Author.Tests.{eqb-true, eq-eqb}
 use Rattle.words.specs.Bools.{by-test}
 use Rattle.steps.specs.Below.{anyBelow, countBelow}
-use Rattle.steps.specs.BelowLaws.{and-true, any-make, any-at}
-use Rattle.steps.specs.BelowLaws.{count-le, count-hit, count-nth, count-cong, count-sub}
+use Rattle.steps.specs.BelowLaws.{and-true, any-make, any-at, count-le, count-hit, count-nth, count-cong, count-sub}
 use Rattle.steps.specs.Model.{Step, store, writeBack, fence, Steps, line, storesTo, writesBack, isFence, made}
 use Rattle.steps.specs.Model.{Rule, isSettled, settlesIn, settled, Permitted}
 

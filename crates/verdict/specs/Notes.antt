@@ -16,13 +16,13 @@ use Rattle.leaf.specs.Search.{count, countTo}
 use Rattle.leaf.specs.SearchLaws.{count-none}
 use Rattle.leaf.specs.Tally.{atMost, mostTo}
 use Rattle.leaf.specs.TallyLaws.{tally-right, right-prints, right-twins, none-at-most, all-above, some-at-most, most-above, most-is}
+use Rattle.survey.specs.Walk.{State, againBy, moved}
 use Rattle.image.specs.Chain.{All, Has}
 use Rattle.image.specs.ChainLaws.{all-join, all-map, all-split, has-split, has-left, has-right}
 use Rattle.image.specs.CountLaws.{count-filled}
 use Rattle.image.specs.Potential.{entries, sumOf}
 use Rattle.image.specs.Target.{Reaches}
 use Rattle.image.specs.Walk.{Stands, Walked, walk-on}
-use Rattle.survey.specs.Walk.{State, againBy, moved}
 use Rattle.verdict.specs.Passed.{Passed}
 use Rattle.verdict.specs.Place.{reachesTo, targetFrom, beforeFrom}
 

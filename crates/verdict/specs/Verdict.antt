@@ -13,13 +13,13 @@ use Rattle.words.specs.Bools.{both, differ, not-so}
 use Rattle.leaf.specs.Leaf.{Leaf, Taken}
 use Rattle.leaf.specs.Search.{count, countTo}
 use Rattle.leaf.specs.Tally.{atMost, mostTo}
+use Rattle.survey.specs.Walk.{State, againBy, faultOf, judged, moved, stopped, walk, start, surveyed}
+use Rattle.survey.specs.Turns.{walk-stop}
 use Rattle.image.specs.Chain.{All, Sound}
 use Rattle.image.specs.ChainLaws.{all-map, all-join, all-split}
 use Rattle.image.specs.ChainSize.{chain-short}
 use Rattle.image.specs.Potential.{sumOf}
 use Rattle.image.specs.Walk.{Stands, Walked, Onward, walk-start, walk-begins, walk-stands, walk-on, walk-ends}
-use Rattle.survey.specs.Walk.{State, againBy, faultOf, judged, moved, stopped, walk, start, surveyed}
-use Rattle.survey.specs.Turns.{walk-stop}
 use Rattle.verdict.specs.Passed.{fault-passed, passed-fault, fault-number}
 use Rattle.verdict.specs.Place.{targetFrom, beforeFrom}
 use Rattle.verdict.specs.Notes.{Notes, nowhere, passed-stands, stands-passed, notes-on}

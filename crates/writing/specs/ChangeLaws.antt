@@ -16,10 +16,10 @@ use Rattle.steps.specs.declared.Step.{Step}
 use Rattle.steps.specs.Refusals.{answer, badImage}
 use Rattle.steps.specs.Encoding.{written}
 use Rattle.steps.specs.Shapes.{oneStore}
+use Rattle.survey.specs.Walk.{surveyed}
 use Rattle.image.specs.Map.{lookup}
 use Rattle.image.specs.Answers.{valueAt}
 use Rattle.image.specs.Image.{blocks, leaves}
-use Rattle.survey.specs.Walk.{surveyed}
 use Rattle.verdict.specs.Place.{targetFrom, beforeFrom}
 use Rattle.index.specs.Reading.{isSound, entriesIn, isNone}
 use Rattle.index.specs.SoundTest.{survey-sound, says-yes, says-no, sound-chain}

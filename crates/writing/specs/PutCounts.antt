@@ -9,9 +9,9 @@ use native.Mathlib.Omega.{arith}
 use borrow.Author.Tests.{ne-eqb, lt-ltb, le-ltb}
 use lib.Dec.{eqb}
 use lib.ListN.{length, length-append}
-use Rattle.steps.specs.Model.{isLineWrite, isWordWrite}
 use Rattle.leaf.specs.Leaf.{Leaf, occIn, view}
 use Rattle.leaf.specs.Search.{lowestVacant}
+use Rattle.steps.specs.Model.{isLineWrite, isWordWrite}
 use Rattle.steps.specs.declared.Step.{Step}
 use Rattle.steps.specs.Encoding.{written}
 use Rattle.lists.specs.Lists.{headIn, farPut, putAt, putFound, plainPut}

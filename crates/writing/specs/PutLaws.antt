@@ -17,13 +17,13 @@ use Rattle.leaf.specs.declared.search.Slot.{Slot}
 use Rattle.leaf.specs.declared.search.Slot.the-variants.{At, Missing}
 use Rattle.steps.specs.declared.Step.{Step}
 use Rattle.steps.specs.Refusals.{answer, badImage}
+use Rattle.survey.specs.Marks.{isIn}
+use Rattle.survey.specs.Walk.{surveyed}
 use Rattle.image.specs.Chain.{All, Starts}
 use Rattle.image.specs.ChainLaws.{Good, all-split, sound-good}
 use Rattle.image.specs.Map.{lookup}
 use Rattle.image.specs.Answers.{valueAt}
 use Rattle.image.specs.Image.{blocks, leaves}
-use Rattle.survey.specs.Marks.{isIn}
-use Rattle.survey.specs.Walk.{surveyed}
 use Rattle.index.specs.Reading.{entriesIn, isNone}
 use Rattle.index.specs.SoundTest.{Surveyed, survey-sound, sound-chain, noted-target as around}
 use Rattle.lists.specs.Lists.{headIn, putAt}

@@ -121,8 +121,8 @@ fn put_split(
         × (bitsOf head ≡ headIn (reads (now image)) block) × (isIn (setOf met) block ≡ true) × Right (leaves (now image) block)
         × (count (leaves (now image) block) ≡ 14) ⌝ }
     ensures { λ r. ⌜ madeAs r (now (list .exit))
-        ≡ putBy Missing Missing (lowest (λ b. not (isIn (setOf met) b)) (blocks (now (image .entry))) 0) (reads (now (image .entry))) block key
-        value (now (list .entry)) ⌝ }
+        ≡ putBy Missing Missing (lowest (λ b. not (isIn (setOf met) b)) (blocks (now (image .entry))) 0)
+        (reads (now (image .entry))) block key value (now (list .entry)) ⌝ }
 {
     match lowest_out(met, image.len() / Leaf::BYTES) {
         Slot::At(c) => put_full(image, head, block, c as u64, list, key, value),

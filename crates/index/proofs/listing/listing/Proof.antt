@@ -3,9 +3,9 @@ use native.Mathlib.Omega.{arith}
 use Prim.Native.Nat.{ℕ, _<_}
 use mathlib.Core.Path.{sym, ap, _∙_, subst}
 use denote.Ref.{now}
+use Rattle.survey.specs.Walk.{State}
 use Rattle.image.specs.Chain.{All}
 use Rattle.image.specs.Image.{blocks, leaves}
-use Rattle.survey.specs.Walk.{State}
 use Rattle.index.specs.Reading.{chainFrom}
 use Rattle.index.specs.SoundTest.{long-enough}
 use Rattle.index.specs.ListingLaws.{target-near, listing-bad, listing-unsound, listing-done}

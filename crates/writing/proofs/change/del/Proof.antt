@@ -5,8 +5,8 @@ use denote.Ref.{now}
 use Prim.Native.Nat.{ℕ}
 use Rattle.words.specs.Words.{reads}
 use Rattle.leaf.specs.Search.{slotOf}
-use Rattle.image.specs.Image.{leaves}
 use Rattle.survey.specs.Walk.{State}
+use Rattle.image.specs.Image.{leaves}
 use Rattle.index.specs.SoundTest.{long-enough, noted-bounds, block-inside}
 use Rattle.lists.specs.Lists.{delList}
 use Rattle.writing.specs.Writing.{targetOf, beforeOf, delOf}

@@ -4,8 +4,8 @@ use mathlib.Core.Path.{sym, ap, _∙_}
 use denote.Ref.{now}
 use Prim.Native.Nat.{ℕ}
 use Rattle.leaf.specs.Search.{slotOf}
-use Rattle.image.specs.Image.{leaves}
 use Rattle.survey.specs.Walk.{State}
+use Rattle.image.specs.Image.{leaves}
 use Rattle.index.specs.SoundTest.{long-enough, noted-bounds, block-inside}
 use Rattle.lists.specs.Lists.{setList}
 use Rattle.writing.specs.Writing.{targetOf, setOf}

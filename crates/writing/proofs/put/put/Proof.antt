@@ -7,8 +7,8 @@ use Prim.Native.Nat.{ℕ}
 use Rattle.words.specs.Words.{reads}
 use Rattle.leaf.specs.Leaf.{Right, occIn}
 use Rattle.leaf.specs.Search.{slotOf, lowest, lowestVacant}
-use Rattle.image.specs.Image.{blocks, leaves}
 use Rattle.survey.specs.Walk.{State}
+use Rattle.image.specs.Image.{blocks, leaves}
 use Rattle.index.specs.SoundTest.{long-enough, noted-bounds, block-inside}
 use Rattle.lists.specs.Lists.{headIn}
 use Rattle.writing.specs.Writing.{Outcome}

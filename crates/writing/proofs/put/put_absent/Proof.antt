@@ -11,11 +11,11 @@ use Rattle.leaf.specs.Search.{lowest, lowestVacant}
 use Rattle.leaf.specs.SearchLaws.{vacant-at}
 use Rattle.leaf.specs.declared.search.Slot.{Slot}
 use Rattle.leaf.specs.declared.search.Slot.the-variants.{Missing}
-use Rattle.image.specs.Image.{blocks, leaves}
 use Rattle.survey.specs.Marks.{setOf, isIn}
+use Rattle.image.specs.Image.{blocks, leaves}
 use Rattle.lists.specs.Lists.{putAt}
-use Rattle.writing.specs.Writing.{outcome}
 use Rattle.lists.specs.Put.{none-vacant}
+use Rattle.writing.specs.Writing.{outcome}
 use Rattle.writing.specs.PutLaws.{putBy}
 use Rattle.writing.proofs.put.put_absent.Statement.{statement}
 use Rattle.writing.proofs.put.put_absent.Tie as tie
