@@ -1,17 +1,17 @@
 -- The refusals, for every call at once. "given exactly when"; "Order: 1, 2, 8, 3, 4, 5, 6 as they apply; for run and cut 1, 7,
 -- 10. (..) An accepted call answers 0. A refusal tells 0 for every count and value and changes no buffer."
 --
--- `Calls` has each call's table, in that order; `Conditions` what the test in each row means.
+-- `Conditions` has each call's numbers in that order, with their sentences.
 use mathlib.Core.Path.{_≡_, refl, sym, ap, _∙_}
 use mathlib.Core.Bool.{Bool, true, false, cond}
 use mathlib.Core.List.{List, [], _∷_}
-use mathlib.Core.Logic.{_⊎_, inl, inr, _≢_, _↔_}
+use mathlib.Core.Logic.{inl, inr, _≢_, _↔_}
 use Prim.Native.Nat.{ℕ, _<_}
 use native.Mathlib.Omega.{arith}
 use borrow.Author.Tests.{ltb-true, ne-eqb}
 use lib.Dec.{ltb, eqb}
 use lib.ListN.{length}
-use Rattle.words.specs.Bools.{both, both-true, by-test}
+use Rattle.words.specs.Bools.{both, both-true, by-test, differ, not-so}
 use Rattle.steps.specs.Refusals.{answer, row-passed}
 use Rattle.steps.specs.declared.Step.{Step}
 use Rattle.image.specs.Chain.{All}
@@ -22,61 +22,66 @@ use Rattle.writing.specs.declared.Made.{Made}
 use Rattle.writing.specs.Writing.{Outcome, outcome, madeAs, putOf, setOf, delOf, putTable, changeTable}
 use Rattle.demands.specs.Calls.{Asked, find, listing, recovery, put, set, del, run, cut, Result, Allowed}
 use Rattle.demands.specs.Calls.{made, told, lent, table}
+use Rattle.demands.specs.Conditions.{Rows, conditions, Given, NoneGiven}
+use Rattle.demands.specs.Sentences.{Match, matched}
 
 -- ---- what is demanded
 
--- n's condition holds, and no condition before it in the order does
-abbrev pub Given : ℕ → List (ℕ × Bool) → Type 0
-Given n [] = ⊥
-Given n (row ∷ rows) = ((row .0 ≡ n) × (row .1 ≡ true)) ⊎ ((row .1 ≡ false) × Given n rows)
-
--- no condition holds
-abbrev pub NoneGiven : List (ℕ × Bool) → Type 0
-NoneGiven [] = Unit {0}
-NoneGiven (row ∷ rows) = (row .1 ≡ false) × NoneGiven rows
-
 pub record Demanded (asked : Asked) (r : Result asked) : Type 0 where
   -- "given exactly when"
-  pub refused : (n : ℕ) → 0 < n → (told asked r .number ≡ n) ↔ Given n (table asked)
+  pub refused : (n : ℕ) → 0 < n → (told asked r .number ≡ n) ↔ Given n (conditions asked)
   -- "An accepted call answers 0."
-  pub accepted : (told asked r .number ≡ 0) ↔ NoneGiven (table asked)
+  pub accepted : (told asked r .number ≡ 0) ↔ NoneGiven (conditions asked)
   -- "A refusal tells 0 for every count and value and changes no buffer."
   pub nothing : told asked r .number ≢ 0 → All (λ n. n ≡ 0) (told asked r .counts) × (told asked r .buffers ≡ lent asked)
 
--- ---- the law of a table
+-- ---- a table whose rows match the sentences
 
 -- no row has the number 0
 abbrev numbered : List (ℕ × Bool) → Bool
 numbered [] = true
 numbered (row ∷ rows) = both (ltb 0 (row .0)) (numbered rows)
 
-given-of : (rows : List (ℕ × Bool)) (n : ℕ) → 0 < n → answer rows ≡ n → Given n rows
-given-of [] n h e = absurd (omega arith)
-given-of (row ∷ rows) n h e =
-    by-test (λ b. row .1 ≡ b → cond b (row .0) (answer rows) ≡ n → Given n (row ∷ rows)) (row .1)
-    (λ x q z. inl (z, q))
-    (λ x q z. inr (q, given-of rows n h z))
+given-of : (rows : List (ℕ × Bool)) (cs : Rows) → Match rows cs → (n : ℕ) → 0 < n → answer rows ≡ n → Given n cs
+given-of [] [] m n h e = absurd (omega arith)
+given-of [] (c ∷ cs) m n h e = absurd m
+given-of (row ∷ rows) [] m n h e = absurd m
+given-of (row ∷ rows) (c ∷ cs) m n h e =
+    by-test (λ b. row .1 ≡ b → cond b (row .0) (answer rows) ≡ n → Given n (c ∷ cs)) (row .1)
+    (λ x q z. inl (sym (m .0) ∙ z, m .1 .0 q))
+    (λ x q z. inr (λ y. differ (sym (m .1 .1 y) ∙ q), given-of rows cs (m .2 q) n h z))
     refl
     e
 
-gives : (rows : List (ℕ × Bool)) (n : ℕ) → Given n rows → answer rows ≡ n
-gives [] n g = absurd g
-gives (row ∷ rows) n g =
+-- a sentence that does not hold leaves the answer to the rows behind it
+passed : (row : ℕ × Bool) (rows : List (ℕ × Bool)) → row .1 ≡ false → answer (row ∷ rows) ≡ answer rows
+passed row rows q = ap (λ (b : Bool). cond b (row .0) (answer rows)) q
+
+gives : (rows : List (ℕ × Bool)) (cs : Rows) → Match rows cs → (n : ℕ) → Given n cs → answer rows ≡ n
+gives [] [] m n g = absurd g
+gives [] (c ∷ cs) m n g = absurd m
+gives (row ∷ rows) [] m n g = absurd m
+gives (row ∷ rows) (c ∷ cs) m n g =
     elim g [
-      | inl x ↦ ap (λ (b : Bool). cond b (row .0) (answer rows)) (x .1) ∙ x .0
-      | inr x ↦ ap (λ (b : Bool). cond b (row .0) (answer rows)) (x .0) ∙ gives rows n (x .1)
+      | inl x ↦ ap (λ (b : Bool). cond b (row .0) (answer rows)) (m .1 .1 (x .1)) ∙ m .0 ∙ x .0
+      | inr x ↦ let q = not-so (row .1) (λ e. x .0 (m .1 .0 e)) in passed row rows q ∙ gives rows cs (m .2 q) n (x .1)
     ]
 
-none-of : (rows : List (ℕ × Bool)) → numbered rows ≡ true → answer rows ≡ 0 → NoneGiven rows
-none-of [] z e = tt
-none-of (row ∷ rows) z e =
+none-of : (rows : List (ℕ × Bool)) (cs : Rows) → Match rows cs → numbered rows ≡ true → answer rows ≡ 0 → NoneGiven cs
+none-of [] [] m z e = tt
+none-of [] (c ∷ cs) m z e = absurd m
+none-of (row ∷ rows) [] m z e = absurd m
+none-of (row ∷ rows) (c ∷ cs) m z e =
     let q = both-true (ltb 0 (row .0)) (numbered rows) z in
     let p = row-passed (row .0) (row .1) (answer rows) (ltb-true 0 (row .0) (q .0)) e in
-    (p .0, none-of rows (q .1) (p .1))
+    (λ y. differ (sym (m .1 .1 y) ∙ p .0), none-of rows cs (m .2 (p .0)) (q .1) (p .1))
 
-none-gives : (rows : List (ℕ × Bool)) → NoneGiven rows → answer rows ≡ 0
-none-gives [] g = refl
-none-gives (row ∷ rows) g = ap (λ (b : Bool). cond b (row .0) (answer rows)) (g .0) ∙ none-gives rows (g .1)
+none-gives : (rows : List (ℕ × Bool)) (cs : Rows) → Match rows cs → NoneGiven cs → answer rows ≡ 0
+none-gives [] [] m g = refl
+none-gives [] (c ∷ cs) m g = absurd m
+none-gives (row ∷ rows) [] m g = absurd m
+none-gives (row ∷ rows) (c ∷ cs) m g =
+    let q = not-so (row .1) (λ e. g .0 (m .1 .0 e)) in passed row rows q ∙ none-gives rows cs (m .2 q) (g .1)
 
 -- ---- each call answers by its table
 
@@ -153,7 +158,13 @@ pub demand1 : (asked : Asked) (r : Result asked) → Allowed asked r → Demande
 demand1 asked r p =
     let e = answers asked r p in
     record {
-      refused = λ n h. (λ z. given-of (table asked) n h (sym e ∙ z), λ g. e ∙ gives (table asked) n g);
-      accepted = (λ z. none-of (table asked) (all-numbered asked) (sym e ∙ z), λ g. e ∙ none-gives (table asked) g);
+      refused = λ n h. (
+        λ z. given-of (table asked) (conditions asked) (matched asked) n h (sym e ∙ z),
+        λ g. e ∙ gives (table asked) (conditions asked) (matched asked) n g,
+      );
+      accepted = (
+        λ z. none-of (table asked) (conditions asked) (matched asked) (all-numbered asked) (sym e ∙ z),
+        λ g. e ∙ none-gives (table asked) (conditions asked) (matched asked) g,
+      );
       nothing = λ ne. nothing asked r p (λ z. ne (e ∙ z));
     }

@@ -1,6 +1,6 @@
 -- "take the lowest block not in the chain", and document 01's slip "A leaf freed by del and never taken again": a block that is
--- not in the chain, whatever it holds, makes the next split find a free one, at most that block; and no put is refused for want of
--- one.
+-- not in the chain, whatever it holds, makes the next split find a free one, at most that block. (That put then does not answer 6
+-- is demand 1.)
 use mathlib.Core.Path.{_≡_, refl, sym, ap, _∙_}
 use mathlib.Core.Bool.{Bool, true, false, cond, not}
 use mathlib.Core.List.{List, [], _∷_}
@@ -9,17 +9,14 @@ use Prim.Native.Nat.{ℕ, _≤_, _<_}
 use native.Mathlib.Decide.{decLt}
 use native.Mathlib.Omega.{arith}
 use borrow.Author.Tests.{ne-eqb, not-true}
-use lib.ListN.{length}
-use Rattle.words.specs.Bools.{both, both-true, by-test, differ}
+use Rattle.words.specs.Bools.{differ}
 use Rattle.leaf.specs.SearchLaws.{lowest-at, lowest-none}
 use Rattle.leaf.specs.declared.search.Slot.{Slot}
 use Rattle.leaf.specs.declared.search.Slot.the-variants.{At, Missing}
-use Rattle.steps.specs.Refusals.{badImage}
 use Rattle.image.specs.Chain.{All, LowestFree}
-use Rattle.image.specs.Map.{lookup}
-use Rattle.image.specs.Image.{blocks, leaves}
-use Rattle.index.specs.Reading.{isSound, chainOf, entriesIn, isNone}
-use Rattle.writing.specs.Writing.{targetOf, freeOf, isAmong, isMissing, isFull, shortList, putOf}
+use Rattle.image.specs.Image.{blocks}
+use Rattle.index.specs.Reading.{chainOf}
+use Rattle.writing.specs.Writing.{freeOf, isAmong}
 use Rattle.writing.specs.PutLaws.{not-among}
 
 -- ---- the block that a split takes
@@ -55,25 +52,3 @@ module _ (l : List ℕ) where
       go Missing e =
           let p = lowest-none (λ x. not (isAmong x (chainOf l))) (blocks l) 0 e b (omega arith) (omega arith) in
           absurd (passed-over b (chainOf l) p a)
-
-  -- so put never answers 6 while a block is out of the chain
-  pub never-wanting : (b : ℕ) → b < blocks l → All (λ x. x ≢ b) (chainOf l) → (list : List ℕ) (k v : ℕ)
-      → putOf l list k v .answer ≢ 6
-  unfolding putOf
-  never-wanting b h a list k v =
-      row-other (badImage (length l)) 1 _ 6 (λ e. omega arith)
-      (row-other (shortList list) 2 _ 6 (λ e. omega arith)
-      (row-other (not (isSound l)) 3 _ 6 (λ e. omega arith)
-      (row-other (not (isNone (lookup k (entriesIn l)))) 4 _ 6 (λ e. omega arith) last)))
-    where
-      row-other : (given : Bool) (number others n : ℕ) → number ≢ n → others ≢ n → cond given number others ≢ n
-      row-other true number others n p q = p
-      row-other false number others n p q = q
-
-      last : _≢_ {A = ℕ} (cond (both (isFull (leaves l (targetOf l k))) (isMissing (freeOf l))) 6 0) 6
-      last =
-          by-test (λ t. both (isFull (leaves l (targetOf l k))) (isMissing (freeOf l)) ≡ t → _≢_ {A = ℕ} (cond t 6 0) 6) _
-          (λ x e. differ
-          (sym (both-true (isFull (leaves l (targetOf l k))) (isMissing (freeOf l)) e .1) ∙ ap isMissing (taken-again b h a .1)))
-          (λ x e z. omega arith)
-          refl
