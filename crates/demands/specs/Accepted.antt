@@ -6,7 +6,7 @@ use mathlib.Core.List.{List, [], _∷_, _++_}
 use mathlib.Core.Logic.{_≢_}
 use Prim.Native.Nat.{ℕ, _^_, _≤_, _<_}
 use native.Mathlib.Omega.{arith}
-use borrow.Author.Tests.{ltb-false, eq-eqb, not-false}
+use borrow.Author.Tests.{ltb-false, eq-eqb, ne-eqb, not-false}
 use lib.ListN.{length}
 use Rattle.words.specs.Words.{reads}
 use Rattle.words.specs.WordLaws.{Bytes}
@@ -34,7 +34,7 @@ use Rattle.survey.specs.Walk.{surveyed}
 use Rattle.verdict.specs.Notes.{lastOr, lastOf}
 use Rattle.index.specs.Reading.{isSound, chainOf, entriesIn, isNone}
 use Rattle.index.specs.SoundTest.{survey-sound, sound-survey, test-sound, sound-chain, aim-target}
-use Rattle.lists.specs.Lists.{setList, delList}
+use Rattle.lists.specs.Lists.{setList, delList, unlinkList, clearList, isAlone}
 use Rattle.lists.specs.FullLists.{putList}
 use Rattle.lists.specs.Served.{linesOf}
 use Rattle.lists.specs.SetDel.{Behind}
@@ -90,6 +90,7 @@ judged l k fine so =
 pub record Accepted (l list : List ℕ) (o : Outcome) (es : List Entry) (price : ℕ) : Type 0 where
   pub made : List Step
   pub fine : badImage (length l) ≡ false
+  pub sound : isSound l ≡ true
   pub room : 112 ≤ length list
   pub few : length made ≤ 56
   pub lines : linesOf made ≤ 8
@@ -123,6 +124,11 @@ held l k J e = go (placeOf l k) refl (ap isNone (J .value) ∙ e)
         let r = slot-at (leaves l (targetOf l k)) k s q in record { slot = s; at = q; taken = r .1 .taken; key = r .1 .key }
     go Missing q z = differ z
 
+unlinks : (w : ℕ → ℕ) (p b s : ℕ) → b ≢ 0 → count (view w b) ≡ 1 → delList w p b s ≡ unlinkList w p b
+unfolding delList isAlone
+unlinks w p b s other alone = λ i.
+    cond (both (not (ne-eqb b 0 other i)) (eq-eqb (count (view w b)) 1 alone i)) (unlinkList w p b) (clearList w b s)
+
 module _ (l list : List ℕ) (k : ℕ) (bytes : Bytes l) where
   -- the rows that put, set and del begin with
   rows : (rest : ℕ) → cond (badImage (length l)) 1 (cond (shortList list) 2 (cond (not (isSound l)) 3 rest)) ≡ 0
@@ -144,6 +150,7 @@ module _ (l list : List ℕ) (k : ℕ) (bytes : Bytes l) where
       record {
         made = setList b (h .slot) v;
         fine = r .0;
+        sound = r .2;
         room = r .1;
         few = omega (arith, set-size b (h .slot) v .0);
         lines = omega (arith, set-size b (h .slot) v .1);
@@ -163,6 +170,7 @@ module _ (l list : List ℕ) (k : ℕ) (bytes : Bytes l) where
       record {
         made = delList (reads l) (beforeOf l k) b (h .slot);
         fine = r .0;
+        sound = r .2;
         room = r .1;
         few = omega (arith, del-size (reads l) (beforeOf l k) b (h .slot) .0);
         lines = omega (arith, del-size (reads l) (beforeOf l k) b (h .slot) .1);
@@ -171,6 +179,12 @@ module _ (l list : List ℕ) (k : ℕ) (bytes : Bytes l) where
             (h .key) (beforeOf l k) (J .before));
         told = told-as list e (ap (λ (x : Slot). atSlot x (λ s. delList (reads l) (beforeOf l k) b s)) (h .at));
       }
+
+  -- the only entry of a leaf other than block 0
+  pub del-unlinks : (e : delOf l list k .answer ≡ 0) → targetOf l k ≢ 0 → count (leaves l (targetOf l k)) ≡ 1
+      → del-accepted e .made ≡ unlinkList (reads l) (beforeOf l k) (targetOf l k)
+  unfolding del-accepted
+  del-unlinks e other alone = unlinks (reads l) (beforeOf l k) (targetOf l k) _ other alone
 
   -- a key that is not there is in no slot of its target leaf
   missing : Judged l k → isNone (lookup k (entriesIn l)) ≡ true → Absent (leaves l (targetOf l k)) k
@@ -212,6 +226,7 @@ module _ (l list : List ℕ) (k : ℕ) (bytes : Bytes l) where
       record {
         made = putList (reads l) b c k v;
         fine = r .0;
+        sound = r .2;
         room = r .1;
         few = put-size (reads l) b c k v .0;
         lines = put-size (reads l) b c k v .1;

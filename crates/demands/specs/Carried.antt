@@ -7,7 +7,7 @@ use Prim.Native.Nat.{ℕ, _+_, _*_, _≤_}
 use native.Mathlib.Omega.{arith}
 use lib.ListN.{length}
 use Rattle.steps.specs.declared.Step.{Step}
-use Rattle.steps.specs.Model.{line, cut, rule01, Permitted, isLineWrite, lineWrites}
+use Rattle.steps.specs.Model.{line, run, cut, rule01, Permitted, isLineWrite, lineWrites}
 use Rattle.steps.specs.BelowLaws.{count-cong}
 use Rattle.steps.specs.Settling.{AllSettled}
 use Rattle.steps.specs.Rules.{lawful01, lines-in-lines}
@@ -98,12 +98,19 @@ module _ (l list : List ℕ) (o : Outcome) (es : List Entry) (price : ℕ) (A : 
       ap (λ (k : ℕ). perLine * k)
       (count-cong (λ i. isLineWrite (stepsOf t i)) (λ i. isLineWrite (stepAt words i)) n (λ i b. ap isLineWrite (back n h i b)))
 
+  run-steps : runOf l words (length t) .image ≡ run storeWord (stepsOf t) l (length t)
+  run-steps =
+      run-accepted l words (length t) (passes (length t) (omega arith)) .1
+      ∙ run-cong (stepAt words) (stepsOf t) storeWord l (length t) same
+
+  -- the image that is left, from the steps made
+  pub ran-is : runOf l (o .list) (o .steps) .image ≡ run storeWord (stepsOf (A .made)) l (length (A .made))
+  ran-is = ap (λ (x : Outcome). runOf l (x .list) (x .steps) .image) (A .told) ∙ run-steps
+
   run-left : LeftBytes l (runOf l words (length t) .image) es (perLine * lineWrites (stepAt words) (length t)) (bound price)
   run-left =
-      let e = run-accepted l words (length t) (passes (length t) (omega arith)) .1
-      ∙ run-cong (stepAt words) (stepsOf t) storeWord l (length t) same in
       subst (λ (c : ℕ). LeftBytes l (runOf l words (length t) .image) es c (bound price)) (same-cost (length t) (omega arith))
-      (subst (λ (m : List ℕ). LeftBytes l m es (spent t (length t)) (bound price)) (sym e) (A .served .whole))
+      (subst (λ (m : List ℕ). LeftBytes l m es (spent t (length t)) (bound price)) (sym run-steps) (A .served .whole))
 
   cut-left : (n : ℕ) (arrivals : List ℕ) → n ≤ length t → cutOf l words n arrivals .answer ≡ 0
       → CutLeft l (outcome 0 t list) n arrivals (entriesIn l) ⊎ CutLeft l (outcome 0 t list) n arrivals es

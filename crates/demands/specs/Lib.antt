@@ -11,6 +11,7 @@ pub mod Accepted
 pub mod Carried
 pub mod Demand2
 pub mod Demand3
+pub mod Freed
 pub mod Alike
 pub mod Computing
 pub mod Cases
