@@ -37,7 +37,8 @@ Result (del image list key) = Made × List ℕ
 Result (run image list n) = Ran × List ℕ
 Result (cut image list n arrivals) = Ran × List ℕ
 
--- The contracts, `ensures` for `ensures`: `now (x .entry)` is what was lent, `now (x .exit)` what is there at the end.
+-- The contracts, `ensures` for `ensures`, where r is the answer with each `now (x .exit)` behind it and the names of what was lent
+-- stand for `now (x .entry)`. Of set: `madeAs r (now (list .exit)) ≡ setOf (now (image .entry)) (now (list .entry)) key value`.
 abbrev pub Allowed : (asked : Asked) → Result asked → Type 0
 Allowed (find image key) r = foundAs r ≡ findOf image key
 Allowed (listing image from keys values) r = listingIs (listedAs (r .0)) (r .1) (r .2) ≡ listingOf image from keys values

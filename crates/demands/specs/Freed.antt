@@ -1,6 +1,6 @@
 -- "Del: if the entry is the only one of a leaf other than block 0, (..) (001's steps for deletion are only the second; the first
--- frees the block.)" The freed block is out of the chain, so that a later split takes it or a lower one: document 01's slip "A leaf
--- freed by del and never taken again" is none of ours.
+-- frees the block.)" The freed block is out of the chain, so that a later split takes it or a lower one: document 01's slip
+-- "A leaf freed by del and never taken again" is none of ours.
 use mathlib.Core.Path.{_≡_, sym, ap, _∙_, subst}
 use mathlib.Core.List.{List, _∷_, _++_, [], append-assoc}
 use mathlib.Core.Logic.{_≢_, inl, inr}

@@ -2,9 +2,10 @@
 -- too; prove that two results allowed by it are equal."
 use mathlib.Core.Path.{_≡_, refl, sym, ap, _∙_}
 use mathlib.Core.Bool.{cond}
-use mathlib.Core.List.{List}
+use mathlib.Core.List.{List, _++_}
 use Prim.Native.Nat.{ℕ}
 use lib.Dec.{eqb}
+use lib.ListN.{drop}
 use Rattle.machine.specs.CallLaws.{answer-of}
 use Rattle.index.specs.declared.find.Found.{Found}
 use Rattle.index.specs.declared.find.Found.the-variants.{
@@ -29,6 +30,7 @@ use Rattle.writing.specs.Writing.{Outcome, madeAs}
 use Rattle.command.specs.declared.Command.{Command}
 use Rattle.command.specs.declared.Next.{Next}
 use Rattle.command.specs.Reading.{parseOf, lineAt}
+use Rattle.command.specs.Spelling.{Written}
 use Rattle.demands.specs.Calls.{Asked, find, listing, recovery, put, set, del, run, cut, Result, Allowed}
 
 -- ---- a way of telling from which the thing told can be had again is the same for no two things
@@ -122,3 +124,8 @@ one-command line r s p q = p ∙ sym q
 
 pub one-line : (input : List ℕ) (at : ℕ) (r s : Next) → r ≡ lineAt input at → s ≡ lineAt input at → r ≡ s
 one-line input at r s p q = p ∙ sym q
+
+-- Writing one: the line, its length, and what stands behind it.
+pub one-answer : (old line : List ℕ) (r s : List ℕ × ℕ) → Written old line (r .0) (r .1) → Written old line (s .0) (s .1) → r ≡ s
+one-answer old line r s p q =
+    let n = p .0 ∙ sym (q .0) in λ i. ((p .1 ∙ ap (λ (k : ℕ). line ++ drop k old) n ∙ sym (q .1)) i, n i)
