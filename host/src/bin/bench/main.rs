@@ -12,8 +12,11 @@ use stringhut::fast::Fast;
 
 const SIZES: [usize; 3] = [4, 64, 256];
 const SEED: u64 = 70;
-const ROUNDS: usize = 15;
-const ROUND: Duration = Duration::from_millis(8);
+/// Each sweep takes some rounds of every row: what keeps the machine busy for a second spoils no row.
+const SWEEPS: usize = 12;
+const ROUNDS: usize = 16;
+/// Short, so that many pass without another program in between.
+const ROUND: Duration = Duration::from_micros(400);
 
 /// The buffers of all calls.
 struct Buffers {
@@ -69,16 +72,35 @@ fn nanoseconds(times: usize, repeat: impl FnOnce(usize)) -> f64 {
     start.elapsed().as_nanos() as f64 / times as f64
 }
 
-/// The best round of each, taken by turns so that both meet the same machine.
-fn compare(job: Job, scene: &Scene) -> (f64, f64) {
-    let mut buffers = Buffers::for_scene(scene);
-    let times = calls_per_round(|times| repeat(&Fast, job, scene, times, &mut buffers));
-    let (mut library, mut fast) = (f64::MAX, f64::MAX);
-    for _ in 0..ROUNDS {
-        library = library.min(nanoseconds(times, |times| repeat(&Board, job, scene, times, &mut buffers)));
-        fast = fast.min(nanoseconds(times, |times| repeat(&Fast, job, scene, times, &mut buffers)));
+/// One row of the table: how often a round makes its call, and the best round of each.
+struct Row {
+    job: Job,
+    times: usize,
+    library: f64,
+    plain: f64,
+}
+
+impl Row {
+    fn new(job: Job, scene: &Scene, buffers: &mut Buffers) -> Row {
+        let times = calls_per_round(|times| repeat(&Fast, job, scene, times, buffers));
+        Row { job, times, library: f64::MAX, plain: f64::MAX }
     }
-    (library, fast)
+
+    /// Rounds of each by turns, so that both meet the same machine.
+    fn measure(&mut self, scene: &Scene, buffers: &mut Buffers) {
+        let mut round =
+            |calls: &dyn Calls| nanoseconds(self.times, |times| repeat(calls, self.job, scene, times, buffers));
+        for _ in 0..ROUNDS {
+            self.library = self.library.min(round(&Board));
+            self.plain = self.plain.min(round(&Fast));
+        }
+    }
+
+    fn print(&self, bytes: f64, pass: f64) {
+        let Row { job, library, plain, .. } = self;
+        let (ratio, rate, passes) = (library / plain, bytes / library, library / pass);
+        println!("{:16} {library:12.1} {plain:12.1} {ratio:7.2} {rate:12.2} {passes:9.1}", job.name());
+    }
 }
 
 fn words(scene: &Scene) -> impl Iterator<Item = u64> {
@@ -105,17 +127,20 @@ fn pass_time(pass: fn(&Scene) -> u64, scene: &Scene) -> f64 {
 
 fn table(blocks: usize) {
     let scene = Scene::new(blocks, SEED);
-    let bytes = 256.0 * scene.chained.len() as f64;
-    let (pass, wide_pass) = (pass_time(pass, &scene), pass_time(wide_pass, &scene));
-    println!("\nN = {blocks}: {} blocks chained, {} entries.", scene.chained.len(), scene.entries);
-    println!("A plain pass over them takes {pass:.0} ns word by word, {:.1} bytes/ns;", bytes / pass);
-    println!("{wide_pass:.0} ns with several words at once, {:.1} bytes/ns.", bytes / wide_pass);
-    println!("{:16} {:>12} {:>12} {:>7} {:>12} {:>9}", "", "library ns", "plain ns", "ratio", "lib bytes/ns", "passes");
-    for job in JOBS {
-        let (library, fast) = compare(job, &scene);
-        let (ratio, rate, passes) = (library / fast, bytes / library, library / pass);
-        println!("{:16} {library:12.1} {fast:12.1} {ratio:7.2} {rate:12.2} {passes:9.1}", job.name());
+    let mut buffers = Buffers::for_scene(&scene);
+    let mut rows = JOBS.map(|job| Row::new(job, &scene, &mut buffers));
+    let (mut by_word, mut wide) = (f64::MAX, f64::MAX);
+    for _ in 0..SWEEPS {
+        by_word = by_word.min(pass_time(pass, &scene));
+        wide = wide.min(pass_time(wide_pass, &scene));
+        rows.iter_mut().for_each(|row| row.measure(&scene, &mut buffers));
     }
+    let bytes = 256.0 * scene.chained.len() as f64;
+    println!("\nN = {blocks}: {} blocks chained, {} entries.", scene.chained.len(), scene.entries);
+    println!("A plain pass over them takes {by_word:.0} ns word by word, {:.1} bytes/ns;", bytes / by_word);
+    println!("{wide:.0} ns with several words at once, {:.1} bytes/ns.", bytes / wide);
+    println!("{:16} {:>12} {:>12} {:>7} {:>12} {:>9}", "", "library ns", "plain ns", "ratio", "lib bytes/ns", "passes");
+    rows.iter().for_each(|row| row.print(bytes, by_word));
 }
 
 /// `count BLOCKS JOB NAME CALLS`: JOB is the number of a row from 0, NAME is library or plain.
@@ -136,7 +161,7 @@ fn main() -> ExitCode {
     let arguments: Vec<String> = std::env::args().skip(1).collect();
     match arguments.split_first() {
         None => {
-            println!("Best of {ROUNDS} rounds, library and plain Rust by turns.");
+            println!("Best of {} rounds, library and plain Rust by turns.", SWEEPS * ROUNDS);
             println!("Passes: the library's time in plain passes word by word.");
             SIZES.into_iter().for_each(table);
             ExitCode::SUCCESS
