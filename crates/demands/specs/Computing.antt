@@ -3,7 +3,7 @@ use Rattle.words.specs.Words.{reads, wordAt, storeAt}
 use Rattle.header.specs.Fields.{field, patched}
 use Rattle.header.specs.Header.{altIn, fingerprintIn, fingerprintOf, isLocked, isOccupied, marked, xorOfBytes, cleared, flipped}
 use Rattle.leaf.specs.Leaf.{block, occIn, view}
-use Rattle.leaf.specs.Search.{count, countTo, holdsKey, lowest, lowestVacant, slotOf, closest, leastFrom, smallestOf}
+use Rattle.leaf.specs.Search.{count, countTo, holdsKey, lowest, lowestVacant, slotOf, closest, leastFrom}
 use Rattle.leaf.specs.Tally.{atMost, mostTo, shares, someTo, twinAt, twins, wrongAt}
 use Rattle.steps.specs.Model.{isSettled}
 use Rattle.steps.specs.Encoding.{decode, written}
@@ -23,9 +23,9 @@ use Rattle.writing.specs.Writing.{putOf, delOf}
 
 unfoldable pub computing : Unit {0}
 unfolding reads wordAt storeAt field patched altIn fingerprintIn fingerprintOf isLocked isOccupied marked xorOfBytes cleared
-    flipped block occIn view count countTo holdsKey lowest lowestVacant slotOf closest leastFrom smallestOf atMost mostTo
-    shares someTo twinAt twins wrongAt isSettled decode written badImage badArrivals badList faultOf judged surveyed walk
-    lookup slotsFrom slotsOf entriesOf listOf copies targetFrom beforeFrom chainFrom chainOf entriesIn isSound findOf
-    recoveryOf nearPut putAt farPut filledHead copiesBeside plainPut unlinkList clearList isAlone delList putList fullPut
-    goesUp movedSlots splitList putOf delOf E.entriesIn
+    flipped block occIn view count countTo holdsKey lowest lowestVacant slotOf closest leastFrom atMost mostTo shares someTo
+    twinAt twins wrongAt isSettled decode written badImage badArrivals badList faultOf judged surveyed walk lookup slotsFrom
+    slotsOf entriesOf listOf copies targetFrom beforeFrom chainFrom chainOf entriesIn isSound findOf recoveryOf nearPut putAt
+    farPut filledHead copiesBeside plainPut unlinkList clearList isAlone delList putList fullPut goesUp movedSlots splitList
+    putOf delOf E.entriesIn
 computing = tt
