@@ -8,4 +8,5 @@ pub hut-listing-spec : {M : Type 1} → statement M
 hut-listing-spec =
     tie.close
     (tie.spec (λ c κs. search needs) (λ c κs. search needs) (λ c. search needs) (λ c. search needs)
-    (λ c. let f = c .before .before .before .before .before .listing in listed-beside (listedAs (f .result)) _ _ _ _ _ (c .told-listed .ensures) (f .ensures)))
+    (λ c. let f = c .before .before .before .before .before .listing in
+    listed-beside (listedAs (f .result)) _ _ _ _ _ (c .told-listed .ensures) (f .ensures)))

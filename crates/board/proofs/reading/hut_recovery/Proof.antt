@@ -8,4 +8,5 @@ pub hut-recovery-spec : {M : Type 1} → statement M
 hut-recovery-spec =
     tie.close
     (tie.spec (λ c κs. search needs) (λ c κs. search needs) (λ c. search needs) (λ c. search needs)
-    (λ c. let f = c .before .before .before .before .before .recovery in recovered-beside (recoveredAs (f .result)) _ _ _ _ _ _ (c .told-recovered .ensures) (f .ensures)))
+    (λ c. let f = c .before .before .before .before .before .recovery in
+    recovered-beside (recoveredAs (f .result)) _ _ _ _ _ _ (c .told-recovered .ensures) (f .ensures)))
