@@ -2,6 +2,7 @@
 -- Accepted and Carried join the calls' contracts with what the crates below prove.
 pub mod Calls
 pub mod Unique
+pub mod UniqueOutside
 pub mod Conditions
 pub mod Sentences
 pub mod Demand1

@@ -229,5 +229,8 @@ module _ (k : ℕ) where
   pub lookup-some : {H : Map} {l : List Entry} → Lists H l → (v : ℕ) → H k v → lookup k l ≡ some v
   lookup-some {H} {l} L v h = member-found 0 l v (L .sorted) (L .members .back k v h)
 
+  pub some-lookup : {H : Map} {l : List Entry} → Lists H l → (v : ℕ) → lookup k l ≡ some v → H k v
+  some-lookup {H} {l} L v e = L .members .to k v (found-member l v e)
+
   pub lookup-none : {H : Map} {l : List Entry} → Lists H l → ((v : ℕ) → H k v → ⊥) → lookup k l ≡ none
   lookup-none {H} {l} L f = absent-missing l (λ v m. f v (L .members .to k v m))
