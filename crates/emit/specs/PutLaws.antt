@@ -32,20 +32,21 @@ module _ (h : ℕ) (L : Leaf) (b s k v : ℕ) where
       length-append (entrySteps b s k v ++ copySteps L b (copiesBeside h s)) _
       ∙ omega (arith, copy-length L b (copiesBeside h s))
 
-  pub far-put : (at n g : ℕ) (l0 l1 l2 l3 l4 : List ℕ) → l1 ≡ appended l0 at (entrySteps b s k v)
+  pub far-put : (at n p g : ℕ) (l0 l1 l2 l3 l4 : List ℕ) → l1 ≡ appended l0 at (entrySteps b s k v)
       → l2 ≡ appended l1 (at + 2) (copySteps L b (copiesBeside h s)) → n ≡ length (copiesBeside h s)
-      → l3 ≡ appended l2 (at + 2 + 2 * n) (settling (line (keyPlace b s)))
+      → p ≡ line (keyPlace b s) → l3 ≡ appended l2 (at + 2 + 2 * n) (settling p)
       → g ≡ filledHead h L s k → l4 ≡ appended l3 (at + 2 + 2 * n + 2) (headerSteps b g)
       → (l4 ≡ appended l0 at (farPut h L b s k v)) × (8 + 2 * n ≡ length (farPut h L b s k v))
   unfolding farPut
-  far-put at n g l0 l1 l2 l3 l4 e1 e2 en e3 eg e4 =
+  far-put at n p g l0 l1 l2 l3 l4 e1 e2 en ep e3 eg e4 =
       let E = entrySteps b s k v in
       let C = copySteps L b (copiesBeside h s) in
       let S = settling (line (keyPlace b s)) in
       let m : length (E ++ C) ≡ 2 + 2 * n = omega (arith, length-append E C, copy-length L b (copiesBeside h s)) in (
         stretch-more l0 l3 at (at + 2 + 2 * n + 2) ((E ++ C) ++ S)
             (stretch-more l0 l2 at (at + 2 + 2 * n) (E ++ C) (stretch-more l0 l1 at (at + 2) E e1 refl l2 C e2)
-            (omega arith) l3 S e3)
+            (omega arith) l3 S
+            (e3 ∙ ap (λ (x : ℕ). appended l2 (at + 2 + 2 * n) (settling x)) ep))
             (omega (arith, length-append (E ++ C) S))
             l4
             (headerSteps b g)

@@ -4,6 +4,7 @@ use crate::head::word1;
 use crate::short::append_store;
 use header::Header;
 use header::fingerprint_of;
+use leaf::place::Leaf;
 use leaf::search::Slot;
 use leaf::search::key_at;
 use leaf::search::lowest_vacant;
@@ -182,7 +183,7 @@ fn append_far_put(
     append_entry(list, at, block, s, key, value);
     let n = append_copies(list, at + 2, head, leaf, block, s);
     let behind = at + 2 + 2 * n;
-    append_settling(list, behind, (32 * block + (2 + 2 * (s as u64))) / 8);
+    append_settling(list, behind, 4 * block + (Leaf::line(s) as u64));
     append_header(list, behind + 2, block, filled_head(head, leaf, s, key));
     8 + 2 * n
 }

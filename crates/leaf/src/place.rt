@@ -9,8 +9,6 @@ impl Leaf {
 
     pub const BYTES: usize = 256;
 
-    pub const LINES: usize = 4;
-
     pub const SIBLING0: usize = 240;
 
     pub const SIBLING1: usize = 248;
