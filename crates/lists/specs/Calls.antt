@@ -5,7 +5,7 @@ use mathlib.Core.List.{List, _∷_, _++_}
 use mathlib.Core.Path.{_≡_}
 use mathlib.Core.Logic.{_≢_}
 use Rattle.words.specs.Words.{reads}
-use Rattle.words.specs.WordLaws.{Bytes, word-small}
+use Rattle.words.specs.WordLaws.{Bytes}
 use Rattle.leaf.specs.Leaf.{Taken}
 use Rattle.leaf.specs.Search.{count}
 use Rattle.steps.specs.Model.{Rule}
@@ -19,14 +19,10 @@ use Rattle.image.specs.Edits.{Absent}
 use Rattle.image.specs.Entries.{listOf}
 use Rattle.lists.specs.Lists.{setList, delList}
 use Rattle.lists.specs.FullLists.{putList}
-use Rattle.lists.specs.Served.{perPut, perChange, Small}
-use Rattle.lists.specs.Bytes.{ServedBytes, served-bytes}
+use Rattle.lists.specs.Served.{perPut, perChange}
+use Rattle.lists.specs.Bytes.{ServedBytes, reads-small, served-bytes}
 use Rattle.lists.specs.SetDel.{Behind, set-served, del-served}
 use Rattle.lists.specs.Put.{put-served}
-
-pub reads-small : (l : List ℕ) → Bytes l → Small (reads l)
-unfolding reads
-reads-small l bytes p = word-small l _ bytes
 
 module _ (rule : Rule) (L : Lawful rule) (l : List ℕ) (size : Sized l) (bytes : Bytes l) (xs : List ℕ) (b : ℕ) (ys : List ℕ)
     (S : Sound (leaves l) (blocks l) (xs ++ (b ∷ ys))) (k : ℕ) where

@@ -16,7 +16,7 @@ pub mod NewLeaf
 pub mod FullPut
 pub mod Put
 pub mod AfterSplit
--- In bytes: demand 2 and the rows of demand 3.
+-- In bytes: demand 2 and the rows of demand 3 for the three calls.
 pub mod Bytes
 pub mod Calls
 -- The slips that document 01 names, computed.
