@@ -1,5 +1,5 @@
 -- What `lists` proves of a list of steps, carried to the list of words that a call writes and to what run and cut leave of it.
-use mathlib.Core.Path.{_≡_, sym, ap, _∙_, subst}
+use mathlib.Core.Path.{_≡_, refl, sym, ap, _∙_, subst}
 use mathlib.Core.List.{List}
 use mathlib.Core.Bool.{false}
 use mathlib.Core.Logic.{_⊎_, inl, inr}
@@ -8,7 +8,7 @@ use native.Mathlib.Omega.{arith}
 use lib.ListN.{length}
 use Rattle.steps.specs.declared.Step.{Step}
 use Rattle.steps.specs.Model.{line, run, cut, rule01, Permitted, isLineWrite, lineWrites}
-use Rattle.steps.specs.BelowLaws.{count-cong}
+use Rattle.steps.specs.BelowLaws.{count-cong, count-le}
 use Rattle.steps.specs.Settling.{AllSettled}
 use Rattle.steps.specs.Rules.{lawful01, lines-in-lines}
 use Rattle.steps.specs.Encoding.{stepAt, stepsOf, written}
@@ -18,18 +18,18 @@ use Rattle.steps.specs.Refusals.{badImage}
 use Rattle.machine.specs.Calls.{storeWord, arrived, runOf, cutOf}
 use Rattle.machine.specs.Fits.{Passed}
 use Rattle.machine.specs.CallLaws.{Arrived, run-accepted, cut-passed, cut-accepted, written-passed}
-use Rattle.image.specs.Map.{Entry, lookup}
+use Rattle.image.specs.Map.{Entry}
 use Rattle.image.specs.Entries.{listOf}
 use Rattle.image.specs.Potential.{phi}
 use Rattle.image.specs.Image.{leaves, SoundImage}
 use Rattle.image.specs.ImageLaws.{good-length}
 use Rattle.index.specs.Reading.{chainOf, entriesIn}
 use Rattle.index.specs.SoundTest.{sound-chain}
-use Rattle.index.specs.Agreement.{foundIn, find-accepted, listing-accepted}
+use Rattle.index.specs.Agreement.{find-accepted, listing-accepted, entries-list}
 use Rattle.lists.specs.Served.{perLine, perCut, spent}
 use Rattle.lists.specs.Bytes.{LeftBytes}
 use Rattle.writing.specs.Writing.{Outcome, outcome}
-use Rattle.demands.specs.Holds.{listingIn, Holds}
+use Rattle.demands.specs.Holds.{Holds}
 use Rattle.demands.specs.Accepted.{Accepted}
 
 -- ---- what is carried
@@ -48,7 +48,20 @@ pub record Carried (l : List ℕ) (o : Outcome) (es : List Entry) (price : ℕ) 
       (phi (leaves l) (chainOf l) + price)
   pub cuts : (n : ℕ) (arrivals : List ℕ) → n ≤ o .steps → cutOf l (o .list) n arrivals .answer ≡ 0
       → CutLeft l o n arrivals (entriesIn l) ⊎ CutLeft l o n arrivals es
-  pub lines : o .lines ≤ 8
+  pub told : o .lines ≤ 8
+  pub lines : (n : ℕ) → n ≤ o .steps → lineWrites (stepAt (o .list)) n ≤ 8
+
+-- "The map of a sound image is its occupied entries": find and listing answer from them
+pub sound-holds : (l : List ℕ) → badImage (length l) ≡ false → SoundImage l → Holds l (entriesIn l)
+sound-holds l fine S =
+    record {
+      fine = fine;
+      sound = S;
+      entries = refl;
+      map = entries-list l fine S;
+      finds = find-accepted l fine S;
+      lists = listing-accepted l fine S;
+    }
 
 -- an image that is left holds the entries promised
 pub left-holds : {l m : List ℕ} {es : List Entry} {cost bound : ℕ} → badImage (length l) ≡ false → LeftBytes l m es cost bound
@@ -58,13 +71,7 @@ left-holds {l} {m} {es} {cost} {bound} fine L =
     let f : badImage (length m) ≡ false = ap badImage (L .long) ∙ fine in
     let s : SoundImage m = record { chain = L .left .chain; sound = L .left .sound } in
     let q : entriesIn m ≡ es = ap (listOf (leaves m)) (sound-chain m (L .left .chain) f (L .left .sound)) ∙ L .left .list in
-    record {
-      fine = f;
-      sound = s;
-      entries = q;
-      finds = λ k. find-accepted m f s k ∙ ap (λ (fs : List Entry). foundIn (lookup k fs)) q;
-      lists = λ from ks vs. listing-accepted m f s from ks vs ∙ ap (λ (fs : List Entry). listingIn fs from ks vs) q;
-    }
+    subst (Holds m) q (sound-holds m f s)
 
 -- ---- by way of the words written
 
@@ -97,6 +104,15 @@ module _ (l list : List ℕ) (o : Outcome) (es : List Entry) (price : ℕ) (A : 
   same-cost n h =
       ap (λ (k : ℕ). perLine * k)
       (count-cong (λ i. isLineWrite (stepsOf t i)) (λ i. isLineWrite (stepAt words i)) n (λ i b. ap isLineWrite (back n h i b)))
+
+  few-lines : (n : ℕ) → n ≤ length t → lineWrites (stepAt words) n ≤ 8
+  few-lines n h =
+      omega (
+        arith,
+        A .lines,
+        same-cost (length t) (omega arith),
+        count-le (λ i. isLineWrite (stepAt words i)) n (length t) h,
+      )
 
   run-steps : runOf l words (length t) .image ≡ run storeWord (stepsOf t) l (length t)
   run-steps =
@@ -148,5 +164,6 @@ module _ (l list : List ℕ) (o : Outcome) (es : List Entry) (price : ℕ) (A : 
             (A .served .settled);
         whole = run-left;
         cuts = cut-left;
-        lines = A .lines;
+        told = A .lines;
+        lines = few-lines;
       })

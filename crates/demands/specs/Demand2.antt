@@ -3,25 +3,29 @@
 -- number of steps, each line holding any permitted number of its stores, they leave a sound image whose map is the one before or
 -- the one after."
 --
--- The steps are document 01's by the calls' contracts (`putOf`, `setOf`, `delOf` write `putList`, `setList`, `delList`), and find
--- and listing answer from the image's entries by theirs. Here is what running and cutting the lists leaves: in bytes, for every
--- image, key, value and list, with no hypothesis but that the call was accepted.
+-- The steps are document 01's by the calls' contracts (`putOf`, `setOf`, `delOf` write `putList`, `setList`, `delList`). Here is
+-- that find and listing answer from the map (`agrees`), and what running and cutting the lists leaves (`demand2`): for every image
+-- of bytes, key, value and list, with no hypothesis but that the call was accepted.
 use mathlib.Core.Path.{_≡_}
+use mathlib.Core.Bool.{false}
 use mathlib.Core.List.{List}
 use mathlib.Core.Logic.{_⊎_, inl, inr}
 use Prim.Native.Nat.{ℕ, _^_, _≤_, _<_}
+use lib.ListN.{length}
 use Rattle.steps.specs.Model.{rule01}
 use Rattle.steps.specs.Settling.{AllSettled}
 use Rattle.steps.specs.Encoding.{stepAt}
+use Rattle.steps.specs.Refusals.{badImage}
 use Rattle.machine.specs.Calls.{runOf, cutOf}
 use Rattle.words.specs.WordLaws.{Bytes}
 use Rattle.image.specs.Map.{Entry, putIn, without}
+use Rattle.image.specs.Image.{SoundImage}
 use Rattle.index.specs.Reading.{entriesIn}
 use Rattle.lists.specs.Served.{perPut, perChange}
 use Rattle.writing.specs.Writing.{Outcome, putOf, setOf, delOf}
 use Rattle.demands.specs.Holds.{Holds}
 use Rattle.demands.specs.Accepted.{set-accepted, del-accepted, put-accepted}
-use Rattle.demands.specs.Carried.{Carried, carried, left-holds}
+use Rattle.demands.specs.Carried.{Carried, carried, sound-holds, left-holds}
 
 -- ---- what is demanded
 
@@ -80,6 +84,10 @@ carried-call (del k) image list b n e =
     carried image list _ (without k (entriesIn image)) perChange (del-accepted image list k b e)
 
 -- ---- THE DEMAND
+
+-- "On every sound image find, (..) and listing agree with a plain map"
+pub agrees : (image : List ℕ) → badImage (length image) ≡ false → SoundImage image → Holds image (entriesIn image)
+agrees = sound-holds
 
 pub demand2 : (call : Call) (image list : List ℕ) → Bytes image → Numbers call → answered call image list .answer ≡ 0
     → Demanded call image list

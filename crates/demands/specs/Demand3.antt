@@ -133,10 +133,11 @@ paid (cut {image} {I} {D} {R} {C} {W} r call list small e n arrivals h a) =
 
 -- ---- THE DEMAND
 
--- "and no call takes more than 8"
+-- "and no call takes more than 8": neither by what it tells nor by the list itself, run whole or cut
 pub no-more-than-8 : (call : Call) (image list : List ℕ) → Bytes image → Numbers call → answered call image list .answer ≡ 0
-    → answered call image list .lines ≤ 8
-no-more-than-8 call image list b n e = carried-call call image list b n e .lines
+    → (answered call image list .lines ≤ 8)
+    × ((n : ℕ) → n ≤ answered call image list .steps → taken (answered call image list) n ≤ 8)
+no-more-than-8 call image list b n e = let C = carried-call call image list b n e in (C .told, C .lines)
 
 pub demand3 : {image : List ℕ} {I D R C W : ℕ} → Run image I D R C W → 7 * W ≤ 20 * I + 7 * (D + R) + 42 * C
 demand3 r = let P = paid r in omega (arith, P .within)

@@ -1,12 +1,12 @@
 -- What an image left by a call is held against. To be believed.
 use mathlib.Core.Path.{_≡_}
 use mathlib.Core.Bool.{false}
-use mathlib.Core.List.{List, map}
+use mathlib.Core.List.{List, map as each}
 use Prim.Native.Nat.{ℕ, min}
 use lib.ListN.{length, take}
 use Rattle.steps.specs.Refusals.{badImage}
-use Rattle.image.specs.Map.{Entry, lookup, startingAt}
-use Rattle.image.specs.Image.{SoundImage}
+use Rattle.image.specs.Map.{Entry, Lists, lookup, startingAt}
+use Rattle.image.specs.Image.{SoundImage, mapOf}
 use Rattle.index.specs.Reading.{entriesIn, findOf, Listing, over, counted, listingIs, listingOf}
 use Rattle.index.specs.Agreement.{foundIn}
 
@@ -14,7 +14,7 @@ use Rattle.index.specs.Agreement.{foundIn}
 abbrev pub listingIn : List Entry → ℕ → List ℕ → List ℕ → Listing
 listingIn m from ks vs =
     let es = take (min (length ks) (length vs)) (startingAt from m) in
-    listingIs (counted 0 (length es)) (over (map (λ e. e .key) es) ks) (over (map (λ e. e .val) es) vs)
+    listingIs (counted 0 (length es)) (over (each (λ e. e .key) es) ks) (over (each (λ e. e .val) es) vs)
 
 -- The image is sound, of a length that no call refuses, and its map, as a rising list, is m: so any later call starts from a
 -- sound image, and find and listing answer from m.
@@ -22,5 +22,7 @@ pub record Holds (image : List ℕ) (m : List Entry) : Type 0 where
   pub fine : badImage (length image) ≡ false
   pub sound : SoundImage image
   pub entries : entriesIn image ≡ m
+  -- "The map of a sound image is its occupied entries."
+  pub map : Lists (mapOf image sound) m
   pub finds : (k : ℕ) → findOf image k ≡ foundIn (lookup k m)
   pub lists : (from : ℕ) (ks vs : List ℕ) → listingOf image from ks vs ≡ listingIn m from ks vs

@@ -6,6 +6,7 @@ pub mod UniqueOutside
 pub mod Conditions
 pub mod Sentences
 pub mod Demand1
+pub mod Malformed
 pub mod Holds
 pub mod Free
 pub mod Accepted
