@@ -4,15 +4,15 @@ use mathlib.Core.Path.{_≡_, refl, sym, ap, _∙_, subst}
 use mathlib.Core.Bool.{true, false, cond, not}
 use mathlib.Core.List.{List, [], _∷_, _++_, map}
 use mathlib.Core.Logic.{_≢_}
-use Prim.Native.Nat.{ℕ, zero, suc, _+_, _-_, _*_, _^_, _≤_, _<_, min}
+use Prim.Native.Nat.{ℕ, zero, suc, _+_, _-_, _≤_, _<_, min}
 use native.Mathlib.Numerals.{add-one}
 use native.Mathlib.Omega.{arith}
 use lib.Dec.{eqb}
 use lib.ListN.{length, take, set}
-use Rattle.words.specs.Words.{reads}
-use Rattle.words.specs.WordLaws.{Bytes, word-small}
+use Rattle.words.specs.WordLaws.{Bytes}
 use Rattle.leaf.specs.Leaf.{Leaf, leafIn}
 use Rattle.leaf.specs.Search.{leastFrom}
+use Rattle.leaf.specs.SearchSteps.{key-small}
 use Rattle.leaf.specs.SearchLaws.{least-at}
 use Rattle.leaf.specs.declared.search.Slot.{Slot}
 use Rattle.leaf.specs.declared.search.Slot.the-variants.{At, Missing}
@@ -55,10 +55,6 @@ none-above L lo h = go (leastFrom L lo) refl
     go : (x : Slot) → leastFrom L lo ≡ x → leastFrom L lo ≡ Missing
     go (At t) e = absurd (omega (arith, h t, least-at L lo t e .from))
     go Missing e = e
-
-key-small : (l : List ℕ) (s : ℕ) → Bytes l → leafIn l .key s < 2 ^ 64
-unfolding leafIn reads
-key-small l s h = word-small l (8 * (2 + 2 * s)) h
 
 module _ (L : Leaf) (room i lo n : ℕ) (ks vs : List ℕ) (whole : Buffers)
     (so-far : fill room (leafRest L i lo) (buffers n ks vs) ≡ whole) where

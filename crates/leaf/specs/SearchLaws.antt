@@ -134,7 +134,7 @@ pub record Least (L : Leaf) (k n s : ℕ) : Type 0 where
   pub least : (t : ℕ) → t < n → Taken L t → k ≤ L .key t → L .key s ≤ L .key t
 
 -- what an answer for the first n slots says
-abbrev Answers : Leaf → ℕ → ℕ → Slot → Type 0
+abbrev pub Answers : Leaf → ℕ → ℕ → Slot → Type 0
 Answers L k n (At s) = Least L k n s
 Answers L k n Missing = (t : ℕ) → t < n → Taken L t → L .key t < k
 
@@ -181,7 +181,7 @@ module _ (L : Leaf) (k : ℕ) where
     ];
   }
 
-  answers : (n : ℕ) → Answers L k n (closest L k n)
+  pub answers : (n : ℕ) → Answers L k n (closest L k n)
   unfolding closest
   answers zero = λ t b o. absurd (omega arith)
   answers (suc n) = by (closest L k n) (answers n)

@@ -2,18 +2,17 @@
 use mathlib.Core.Path.{_≡_, refl, sym, ap, _∙_}
 use mathlib.Core.Bool.{Bool, true, false}
 use mathlib.Core.List.{List}
-use Prim.Native.Nat.{ℕ, zero, suc, _+_, _-_, _*_, _≤_, _<_}
+use Prim.Native.Nat.{ℕ, suc, _+_, _-_, _*_, _^_, _≤_, _<_}
 use native.Mathlib.Numerals.{add-one}
 use native.Mathlib.Omega.{arith}
-use borrow.Author.Tests.{eq-eqb, ne-eqb, le-leb, lt-leb}
-use lib.Dec.{leb, eqb}
+use borrow.Author.Tests.{eq-eqb, ne-eqb}
+use lib.Dec.{eqb}
 use Rattle.words.specs.Words.{wordAt, reads}
-use Rattle.words.specs.Bools.{both}
+use Rattle.words.specs.WordLaws.{Bytes, word-small}
 use Rattle.header.specs.Header.{headAt, altIn, isLocked, isOccupied, fingerprintIn, fingerprintOf}
 use Rattle.leaf.specs.Leaf.{Leaf, leafIn}
 use Rattle.leaf.specs.LeafLaws.{occ-in}
-use Rattle.leaf.specs.Search.{pickSlot, lowest, holdsKey, slotOf, Within, nearer, closer, closest, leastFrom, countTo}
-use Rattle.leaf.specs.declared.search.Slot.{Slot}
+use Rattle.leaf.specs.Search.{pickSlot, lowest, holdsKey, slotOf, countTo}
 use Rattle.leaf.specs.declared.search.Slot.the-variants.{At, Missing}
 
 -- ---- what is read of the bytes
@@ -44,6 +43,10 @@ module _ (l : List ℕ) where
   unfolding leafIn reads
   in-val s = let e : 24 + 16 * s ≡ 8 * (3 + 2 * s) = omega arith in ap (wordAt l) e
 
+  pub key-small : (s : ℕ) → Bytes l → leafIn l .key s < 2 ^ 64
+  unfolding leafIn reads
+  key-small s h = word-small l (8 * (2 + 2 * s)) h
+
 -- ---- the answers of the tests
 
 module _ (L : Leaf) (k s : ℕ) where
@@ -58,19 +61,6 @@ module _ (L : Leaf) (k s : ℕ) where
   pub holds-other : L .occ s ≡ true → (L .fp s ≡ fingerprintOf k → ⊥) → false ≡ holdsKey L k s
   unfolding holdsKey
   holds-other p q = rw (p, ne-eqb (L .fp s) (fingerprintOf k) q)
-
-module _ (L : Leaf) (k s : ℕ) (best : Slot) where
-  pub closer-new : L .occ s ≡ true → k ≤ L .key s → nearer L s best ≡ true → At s ≡ closer L k s best
-  closer-new p q r = rw (p, le-leb k (L .key s) q, r)
-
-  pub closer-far : L .occ s ≡ true → k ≤ L .key s → nearer L s best ≡ false → best ≡ closer L k s best
-  closer-far p q r = rw (p, le-leb k (L .key s) q, r)
-
-  pub closer-below : L .occ s ≡ true → L .key s < k → best ≡ closer L k s best
-  closer-below p q = rw (p, lt-leb k (L .key s) q)
-
-  pub closer-vacant : L .occ s ≡ false → best ≡ closer L k s best
-  closer-vacant p = rw p
 
 -- ---- the turns
 
@@ -89,28 +79,6 @@ module _ (f : ℕ → Bool) (n i : ℕ) where
   pub lowest-passed : i < n → f i ≡ false → lowest f (n - i) i ≡ lowest f (n - (i + 1)) (i + 1)
   lowest-passed h e = lowest-step h ∙ rw e
 
-pub closest-step : (L : Leaf) (k s : ℕ) (best r : Slot) → best ≡ closest L k s → r ≡ closer L k s best → r ≡ closest L k (s + 1)
-unfolding closest
-closest-step L k s best r e q = rw (add-one s, q, e)
-
-closest-within : (L : Leaf) (k n : ℕ) → Within n (closest L k n)
-unfolding closest
-closest-within L k zero = tt
-closest-within L k (suc n) = grown (both (L .occ n) (both (leb k (L .key n)) (nearer L n (closest L k n)))) (closest L k n)
-    (closest-within L k n)
-  where
-    grown : (b : Bool) (x : Slot) → Within n x → Within (suc n) (pickSlot b n x)
-    grown true x h = omega arith
-    grown false (At t) h = omega arith
-    grown false Missing h = tt
-
-within-more : (n m : ℕ) (x : Slot) → n ≤ m → Within n x → Within m x
-within-more n m (At s) h w = omega arith
-within-more n m Missing h w = tt
-
-pub best-within : (L : Leaf) (k s : ℕ) (best : Slot) → best ≡ closest L k s → s ≤ 14 → Within 14 best
-best-within L k s best e h = rw e (within-more s 14 (closest L k s) h (closest-within L k s))
-
 module _ (f : ℕ → Bool) (n s : ℕ) (so-far : n ≡ countTo f s) where
   pub count-hit : f s ≡ true → n + 1 ≡ countTo f (s + 1)
   unfolding countTo
@@ -120,14 +88,8 @@ module _ (f : ℕ → Bool) (n s : ℕ) (so-far : n ≡ countTo f s) where
   unfolding countTo
   count-miss e = rw (add-one s, so-far, e) (omega arith)
 
--- ---- the whole of each loop, over the 14 slots
+-- ---- the whole of the loop, over the 14 slots
 
-module _ (l : List ℕ) (k : ℕ) where
-  pub slot-whole : lowest (holdsKey (leafIn l) k) 14 0 ≡ slotOf (leafIn l) k
-  unfolding slotOf leafIn
-  slot-whole = refl
-
-  pub least-whole : (s : ℕ) (best : Slot) → best ≡ closest (leafIn l) k s → s ≡ 14 → (best ≡ leastFrom (leafIn l) k) × Within 14 best
-  unfolding leastFrom leafIn
-  least-whole s best e q = let f : best ≡ closest (leafIn l) k 14 = e ∙ ap (closest (leafIn l) k) q in
-      (f, best-within (leafIn l) k 14 best f (omega arith))
+pub slot-whole : (l : List ℕ) (k : ℕ) → lowest (holdsKey (leafIn l) k) 14 0 ≡ slotOf (leafIn l) k
+unfolding slotOf leafIn
+slot-whole l k = refl

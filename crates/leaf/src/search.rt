@@ -7,8 +7,8 @@ ghost use Prim.Native.Nat.{_≤_, _<_};
 ghost use lib.ListN.{length};
 ghost use Rattle.header.specs.Header.{headAt, bitsOf, fingerprintOf};
 ghost use Rattle.leaf.specs.Leaf.{leafIn, occIn};
-ghost use Rattle.leaf.specs.Search.{holdsKey, slotOf, Within, nearer, closer, leastFrom, smallestOf};
-ghost use Rattle.leaf.specs.Search.{lowestVacant, countTo};
+ghost use Rattle.leaf.specs.Search.{lowest, holdsKey, slotOf, Within, leastFrom, smallestOf, lowestVacant, countTo};
+ghost use Rattle.leaf.specs.Nearest.{excessBy, excessOf, nearerOf, nearestTo};
 
 pub enum Slot {
     At(usize),
@@ -74,45 +74,90 @@ pub fn find_slot(leaf: &[u8], key: u64) -> Slot
     Slot::Missing
 }
 
-// Whether the key of slot s is below that of the best slot so far, if there is one.
-fn is_nearer(leaf: &[u8], s: usize, best: Slot) -> bool
-    requires { ⌜ (256 ≤ length (now leaf)) × (s < 14) × Within 14 best ⌝ }
-    ensures { λ r. ⌜ r ≡ nearer (leafIn (now (leaf .entry))) s best ⌝ }
-{
-    match best {
-        Slot::At(t) => key_at(leaf, s) < key_at(leaf, t),
-        Slot::Missing => true,
-    }
+// The nearest key at or above k so far: by how much it is above, and its slot. No slot is 14.
+struct Best {
+    excess: u64,
+    slot: usize,
 }
 
-// The better of slot s and the best so far.
-fn better(leaf: &[u8], head: Header, k: u64, s: usize, best: Slot) -> Slot
-    requires { ⌜ (256 ≤ length (now leaf)) × (s < 14) × (bitsOf head ≡ headAt (now leaf) 0) × Within 14 best ⌝ }
-    ensures { λ r. ⌜ r ≡ closer (leafIn (now (leaf .entry))) k s best ⌝ }
+// No key is further above another.
+const FURTHEST: u64 = 18446744073709551615;
+
+fn excess_of(taken: bool, key: u64, k: u64) -> u64
+    ensures { λ r. ⌜ r ≡ excessBy taken key k ⌝ }
 {
-    if head.occupied(s) {
-        if k <= key_at(leaf, s) {
-            if is_nearer(leaf, s, best) {
-                return Slot::At(s);
-            }
+    if taken {
+        if k <= key {
+            return key - k;
         }
+    }
+    FURTHEST
+}
+
+fn nearer(excess: u64, s: usize, best: Best) -> Best
+    ensures { λ r. ⌜ r ≡ nearerOf excess s best ⌝ }
+{
+    if excess < best.excess {
+        return Best {
+            excess: excess,
+            slot: s,
+        };
     }
     best
 }
 
-// The occupied slot with the smallest key at or above k: from the least key on this steps through a leaf in rising order.
-pub fn least_from(leaf: &[u8], k: u64) -> Slot
-    requires { ⌜ 256 ≤ length (now leaf) ⌝ }
-    ensures { λ r. ⌜ (r ≡ leastFrom (leafIn (now (leaf .entry))) k) × Within 14 r ⌝ }
+// The nearer of slot s and the best so far, with no branch that depends on the keys: their order is not to be foreseen.
+fn better(leaf: &[u8], head: Header, k: u64, s: usize, best: Best) -> Best
+    requires { ⌜ (256 ≤ length (now leaf)) × (s < 14) × (bitsOf head ≡ headAt (now leaf) 0) ⌝ }
+    ensures { λ r. ⌜ r ≡ nearerOf (excessOf (leafIn (now (leaf .entry))) k s) s best ⌝ }
 {
-    let head = Header::read(leaf, 0);
-    let mut best = Slot::Missing;
+    nearer(excess_of(head.occupied(s), key_at(leaf, s), k), s, best)
+}
+
+fn nearest(leaf: &[u8], head: Header, k: u64) -> Best
+    requires { ⌜ (256 ≤ length (now leaf)) × (bitsOf head ≡ headAt (now leaf) 0) ⌝ }
+    ensures { λ r. ⌜ r ≡ nearestTo (leafIn (now (leaf .entry))) k 14 ⌝ }
+{
+    let mut best = Best {
+        excess: FURTHEST,
+        slot: Leaf::SLOTS,
+    };
     let mut s = 0;
     while s < Leaf::SLOTS {
         best = better(leaf, head, k, s, best);
         s += 1;
     }
     best
+}
+
+fn lowest_taken(head: Header) -> Slot
+    ensures { λ r. ⌜ r ≡ lowest (occIn (bitsOf head)) 14 0 ⌝ }
+{
+    let mut s = 0;
+    while s < Leaf::SLOTS {
+        if head.occupied(s) {
+            return Slot::At(s);
+        }
+        s += 1;
+    }
+    Slot::Missing
+}
+
+// The occupied slot with the smallest key at or above k: from the least key on this steps through a leaf in rising order. Above 0
+// none is nearer than the furthest where every key is the largest word, or there is none.
+pub fn least_from(leaf: &[u8], k: u64) -> Slot
+    requires { ⌜ 256 ≤ length (now leaf) ⌝ }
+    ensures { λ r. ⌜ (r ≡ leastFrom (leafIn (now (leaf .entry))) k) × Within 14 r ⌝ }
+{
+    let head = Header::read(leaf, 0);
+    let best = nearest(leaf, head, k);
+    if best.slot < Leaf::SLOTS {
+        return Slot::At(best.slot);
+    }
+    if k == 0 {
+        return lowest_taken(head);
+    }
+    Slot::Missing
 }
 
 // The smallest key, 0 where the leaf is empty.
