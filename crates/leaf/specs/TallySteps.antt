@@ -3,13 +3,15 @@ use mathlib.Core.Path.{_≡_, refl, sym, ap, subst, _∙_}
 use mathlib.Core.Bool.{Bool, true, false, cond, not}
 use mathlib.Core.List.{List}
 use mathlib.Core.Logic.{_≢_}
-use Prim.Native.Nat.{ℕ, zero, suc, _+_, _≤_, _<_, max}
+use Prim.Native.Nat.{ℕ, zero, suc, _+_, _*_, _/_, _%_, _^_, _≤_, _<_, max}
 use native.Mathlib.Decide.{ℕ-discrete}
+use native.Mathlib.Nat.{pow-suc}
 use native.Mathlib.Numerals.{add-one}
 use native.Mathlib.Omega.{arith}
 use borrow.Author.Tests.{eq-eqb, ne-eqb, eqb-true}
 use lib.Dec.{leb, eqb}
 use lib.ListN.{length, getD, set}
+use lib.Pow.{pow-mono}
 use lib.Seq.{getD-set-same, getD-set-other}
 use Rattle.words.specs.Bools.{both, both-true, by-test, differ, not-so}
 use Rattle.header.specs.Header.{fingerprintOf}
@@ -55,19 +57,29 @@ noted last sought print key hit t = record {
   low = t .low + cond (leb key last) 1 0;
   reached = t .reached + cond (leb key sought) 1 0;
   most = max (t .most) key;
-  hits = t .hits + hit;
+  hits = 2 * t .hits + hit;
+}
+
+-- and with one more vacant slot
+abbrev pub passed : Tally → Tally
+passed t = record {
+  entries = t .entries;
+  wrong = t .wrong;
+  low = t .low;
+  reached = t .reached;
+  most = t .most;
+  hits = 2 * t .hits;
 }
 
 pub noted-is : (last sought print key hit : ℕ) (t : Tally) (own wrong low reached most : ℕ) → own ≡ fingerprintOf key
-    → wrong ≡ cond (not (eqb print own)) 1 0 → low ≡ cond (leb key last) 1 0 → reached ≡ cond (leb key sought) 1 0
-    → most ≡ max (t .most) key
+    → wrong ≡ cond (not (eqb print own)) 1 0 → low ≡ cond (leb key last) 1 0 → reached ≡ cond (leb key sought) 1 0 → most ≡ max (t .most) key
     → _≡_ {A = Tally} (record {
       entries = t .entries + 1;
       wrong = t .wrong + wrong;
       low = t .low + low;
       reached = t .reached + reached;
       most = most;
-      hits = t .hits + hit;
+      hits = 2 * t .hits + hit;
     }) (noted last sought print key hit t)
 noted-is last sought print key hit t own wrong low reached most eo ew el er em = rw (ew, el, er, em, eo)
 
@@ -77,7 +89,22 @@ pub record Few (t : Tally) : Type 0 where
   pub wrong : t .wrong < 14
   pub low : t .low < 14
   pub reached : t .reached < 14
-  pub hits : t .hits < 14
+  pub hits : t .hits < 16384
+
+-- of the first n slots, the last one's bit lowest: a slot whose bit is 0 has no twin below
+abbrev pub Hits : Leaf → ℕ → ℕ → Type 0
+Hits L zero h = Unit {0}
+Hits L (suc n) h = (h % 2 ≡ 0 → twinAt L n ≡ false) × Hits L n (h / 2)
+
+hits-none : (L : Leaf) (n : ℕ) → Hits L n 0 → someTo (twinAt L) n ≡ false
+unfolding someTo
+hits-none L zero h = refl
+hits-none L (suc n) h = rw (h .0 refl) (hits-none L n (h .1))
+
+hits-next : (L : Leaf) (n h b : ℕ) → b ≤ 1 → Hits L n h → (b ≡ 0 → twinAt L n ≡ false) → Hits L (suc n) (2 * h + b)
+hits-next L n h b most so-far lone =
+    let q : (2 * h + b) / 2 ≡ h = omega arith in
+    (λ z. lone (omega arith), subst (Hits L n) (sym q) so-far)
 
 -- what the tally tells of the first n slots
 pub record TellsTo (L : Leaf) (last sought n : ℕ) (t : Tally) : Type 0 where
@@ -86,8 +113,8 @@ pub record TellsTo (L : Leaf) (last sought n : ℕ) (t : Tally) : Type 0 where
   pub low : t .low ≡ countTo (atMost L last) n
   pub reached : t .reached ≡ countTo (atMost L sought) n
   pub most : t .most ≡ mostTo L n
-  pub few : t .hits ≤ n
-  pub alone : t .hits ≡ 0 → someTo (twinAt L) n ≡ false
+  pub few : t .hits < 2 ^ n
+  pub alone : Hits L n (t .hits)
 
 -- the fingerprints of the first n slots bear the leaf's number
 abbrev pub Stamped : Leaf → ℕ → ℕ → List ℕ → Type 0
@@ -96,7 +123,7 @@ Stamped L number n stamps = (t : ℕ) → t < n → Taken L t → getD stamps (L
 module _ (L : Leaf) (last sought : ℕ) where
   pub tells-none : TellsTo L last sought 0 (record { entries = 0; wrong = 0; low = 0; reached = 0; most = 0; hits = 0 })
   unfolding countTo mostTo someTo
-  tells-none = record { entries = refl; wrong = refl; low = refl; reached = refl; most = refl; few = omega arith; alone = λ z. refl }
+  tells-none = record { entries = refl; wrong = refl; low = refl; reached = refl; most = refl; few = omega arith; alone = tt }
 
   pub tells-few : (s : ℕ) (t : Tally) → s < 14 → TellsTo L last sought s t → Few t
   tells-few s t b h = record {
@@ -104,12 +131,11 @@ module _ (L : Leaf) (last sought : ℕ) where
     wrong = omega (arith, h .wrong, count-most (wrongAt L) s);
     low = omega (arith, h .low, count-most (atMost L last) s);
     reached = omega (arith, h .reached, count-most (atMost L sought) s);
-    hits = omega (arith, h .few);
+    hits = omega (arith, h .few, pow-mono {i = s} {j = 14} (omega arith));
   }
 
   -- a slot whose fingerprint bore no stamp of this leaf has no twin below
-  unstamped : (s number : ℕ) (stamps : List ℕ) → Stamped L number s stamps → getD stamps (L .fp s) 0 ≢ number
-      → someTo (shares L s) s ≡ false
+  unstamped : (s number : ℕ) (stamps : List ℕ) → Stamped L number s stamps → getD stamps (L .fp s) 0 ≢ number → someTo (shares L s) s ≡ false
   unfolding shares
   unstamped s number stamps h ne = some-none (shares L s) s (λ t b. not-so (shares L s t) (λ e.
       let r = both-true (L .occ t) (both (eqb (L .fp t) (L .fp s)) (eqb (L .key t) (L .key s))) e in
@@ -127,8 +153,8 @@ module _ (L : Leaf) (last sought : ℕ) where
       low = rw (so-far .low, o);
       reached = rw (so-far .reached, o);
       most = rw (so-far .most, o);
-      few = omega (arith, so-far .few, hit-most);
-      alone = λ z. some-next (twinAt L) s (so-far .alone (omega arith)) (lone (omega arith));
+      few = omega (arith, so-far .few, hit-most, pow-suc 2 s);
+      alone = hits-next L s (t .hits) hit hit-most (so-far .alone) lone;
     })
       where
         hit-most : hit ≤ 1
@@ -140,16 +166,16 @@ module _ (L : Leaf) (last sought : ℕ) where
             omega arith))
 
     -- .. and a vacant one passed over
-    pub tells-vacant : L .occ s ≡ false → TellsTo L last sought (s + 1) t
+    pub tells-vacant : (r : Tally) → L .occ s ≡ false → r ≡ passed t → TellsTo L last sought (s + 1) r
     unfolding countTo wrongAt atMost mostTo twinAt
-    tells-vacant o = rw (add-one s) (record {
+    tells-vacant r o er = rw (er, add-one s) (record {
       entries = rw o (so-far .entries ∙ plus-0 (countTo (L .occ) s));
       wrong = rw o (so-far .wrong ∙ plus-0 (countTo (wrongAt L) s));
       low = rw o (so-far .low ∙ plus-0 (countTo (atMost L last) s));
       reached = rw o (so-far .reached ∙ plus-0 (countTo (atMost L sought) s));
       most = rw o (so-far .most);
-      few = omega (arith, so-far .few);
-      alone = λ z. some-next (twinAt L) s (so-far .alone z) (rw o refl);
+      few = omega (arith, so-far .few, pow-suc 2 s);
+      alone = subst (Hits L (suc s)) (sym (plus-0 (2 * t .hits))) (hits-next L s (t .hits) 0 (omega arith) (so-far .alone) (λ z. rw o refl));
     })
       where
         plus-0 : (n : ℕ) → n ≡ n + 0
@@ -165,24 +191,25 @@ stamped-taken L number s stamps r print h ep b er t c o = rw er (elim (ℕ-discr
   ]
 ])
 
-pub stamped-vacant : (L : Leaf) (number s : ℕ) (stamps : List ℕ) → Stamped L number s stamps → L .occ s ≡ false
-    → Stamped L number (s + 1) stamps
+pub stamped-vacant : (L : Leaf) (number s : ℕ) (stamps : List ℕ) → Stamped L number s stamps → L .occ s ≡ false → Stamped L number (s + 1) stamps
 stamped-vacant L number s stamps h v t c o =
     elim (ℕ-discrete t s) [ yes q ↦ differ (sym o ∙ ap (L .occ) q ∙ v) | no q ↦ h t (omega arith) o ]
 
 -- the whole pass, over the 14 slots
 pub tells-whole : (l : List ℕ) (last sought s : ℕ) (t : Tally) → TellsTo (leafIn l) last sought s t → s ≡ 14
-    → Tells (leafIn l) last sought t
+    → Tells (leafIn l) last sought t × Hits (leafIn l) 14 (t .hits)
 unfolding leafIn count twins
-tells-whole l last sought s t h e =
-    let w : TellsTo (leafIn l) last sought 14 t = subst (λ (n : ℕ). TellsTo (leafIn l) last sought n t) e h in record {
-      entries = w .entries;
-      wrong = w .wrong;
-      low = w .low;
-      reached = w .reached;
-      most = w .most;
-      alone = w .alone;
-    }
+tells-whole l last sought s t h e = let w : TellsTo (leafIn l) last sought 14 t = subst (λ (n : ℕ). TellsTo (leafIn l) last sought n t) e h in (
+  record {
+    entries = w .entries;
+    wrong = w .wrong;
+    low = w .low;
+    reached = w .reached;
+    most = w .most;
+    alone = λ z. hits-none (leafIn l) 14 (subst (Hits (leafIn l) 14) z (w .alone));
+  },
+  w .alone,
+)
 
 -- ---- the search for twins
 
@@ -212,11 +239,23 @@ module _ (L : Leaf) (s : ℕ) where
   unfolding twinAt
   twin-vacant o = rw o
 
-module _ (l : List ℕ) (s : ℕ) where
-  pub twins-found : s < 14 → twinAt (leafIn l) s ≡ true → true ≡ twins (leafIn l)
-  unfolding twins leafIn
-  twins-found b e = sym (some-yes (twinAt (leafIn l)) 14 s b e)
+pub twins-found : (l : List ℕ) (s : ℕ) → s < 14 → twinAt (leafIn l) s ≡ true → true ≡ twins (leafIn l)
+unfolding twins leafIn
+twins-found l s b e = sym (some-yes (twinAt (leafIn l)) 14 s b e)
 
-  pub twins-none : s ≡ 14 → someTo (twinAt (leafIn l)) s ≡ false → false ≡ twins (leafIn l)
-  unfolding twins leafIn
-  twins-none q e = sym (ap (someTo (twinAt (leafIn l))) (sym q) ∙ e)
+-- the first n slots, of which the hits are told, have what twins there are
+pub record Left (L : Leaf) (n hits : ℕ) : Type 0 where
+  pub told : Hits L n hits
+  pub rest : someTo (twinAt L) n ≡ twins L
+
+pub left-whole : (l : List ℕ) (h : ℕ) → Hits (leafIn l) 14 h → Left (leafIn l) 14 h
+unfolding twins leafIn
+left-whole l h k = record { told = k; rest = refl }
+
+pub left-next : (L : Leaf) (n h : ℕ) → Left L (suc n) h → twinAt L n ≡ false → Left L n (h / 2)
+unfolding someTo
+left-next L n h k e = record { told = k .told .1; rest = sym (rw e refl) ∙ k .rest }
+
+pub left-none : (L : Leaf) (n h : ℕ) → n ≡ 0 → Left L n h → false ≡ twins L
+unfolding someTo
+left-none L n h z k = let r : someTo (twinAt L) 0 ≡ twins L = rw z at (k .rest) in r

@@ -5,17 +5,17 @@ use crate::search::key_at;
 use header::Header;
 use header::fingerprint_of;
 ghost use mathlib.Core.Path.{_≡_};
-ghost use mathlib.Core.Bool.{cond};
-ghost use Prim.Native.Nat.{_+_, _≤_, _<_, max};
+ghost use mathlib.Core.Bool.{false, cond};
+ghost use Prim.Native.Nat.{_+_, _%_, _≤_, _<_, max};
 ghost use lib.Dec.{eqb};
 ghost use lib.ListN.{length, getD, set};
 ghost use Rattle.header.specs.Header.{headAt, bitsOf};
 ghost use Rattle.leaf.specs.Leaf.{leafIn};
 ghost use Rattle.leaf.specs.Tally.{Tells, shares, twinAt, twins};
-ghost use Rattle.leaf.specs.TallySteps.{noted, Few, TellsTo, Stamped};
+ghost use Rattle.leaf.specs.TallySteps.{noted, passed, Few, Hits, TellsTo, Stamped};
 
 // How many slots are occupied, have a wrong fingerprint, a key at most the last of the earlier leaves, a key at most the one
-// sought; the largest key; how often a fingerprint had come before.
+// sought; the largest key; and of each slot a bit, whether its fingerprint had come before, that of the last slot lowest.
 pub struct Tally {
     pub entries: u64,
     pub wrong: u64,
@@ -68,8 +68,18 @@ fn note(t: Tally, last: u64, sought: u64, print: u8, key: u64, hit: u64) -> Tall
         low: t.low + one_if(key <= last),
         reached: t.reached + one_if(key <= sought),
         most: larger(t.most, key),
-        hits: t.hits + hit,
+        hits: 2 * t.hits + hit,
     }
+}
+
+// The tally with one more vacant slot.
+fn pass_over(t: Tally) -> Tally
+    requires { ⌜ t .hits < 16384 ⌝ }
+    ensures { λ r. ⌜ r ≡ passed t ⌝ }
+{
+    let mut r = t;
+    r.hits = 2 * t.hits;
+    r
 }
 
 // One turn of the pass.
@@ -95,7 +105,7 @@ fn slot(
         let hit = stamp(stamps, print, number);
         return note(t, last, sought, print, key, hit);
     }
-    t
+    pass_over(t)
 }
 
 // The whole pass. The stamps may hold anything: a stamp of an earlier leaf with this number costs a comparison, and no more.
@@ -108,7 +118,8 @@ pub fn tally_of(
     number: u8,
 ) -> Tally
     requires { ⌜ (256 ≤ length (now leaf)) × (bitsOf head ≡ headAt (now leaf) 0) × (256 ≤ length (now stamps)) ⌝ }
-    ensures { λ r. ⌜ Tells (leafIn (now (leaf .entry))) last sought r × (length (now (stamps .exit)) ≡ length (now (stamps .entry))) ⌝ }
+    ensures { λ r. ⌜ Tells (leafIn (now (leaf .entry))) last sought r × Hits (leafIn (now (leaf .entry))) 14 (r .hits)
+        × (length (now (stamps .exit)) ≡ length (now (stamps .entry))) ⌝ }
 {
     let mut t = Tally {
         entries: 0,
@@ -156,17 +167,31 @@ fn is_twin(leaf: &[u8], head: Header, s: usize) -> bool
     false
 }
 
-// Whether two keys of the leaf are equal.
-pub fn has_twins(leaf: &[u8], head: Header) -> bool
-    requires { ⌜ (256 ≤ length (now leaf)) × (bitsOf head ≡ headAt (now leaf) 0) ⌝ }
+// Whether slot s is occupied and a lower one has its key, where an even number says that none has.
+fn is_hit_twin(leaf: &[u8], head: Header, s: usize, hits: u64) -> bool
+    requires { ⌜ (256 ≤ length (now leaf)) × (s < 14) × (bitsOf head ≡ headAt (now leaf) 0)
+        × (hits % 2 ≡ 0 → twinAt (leafIn (now leaf)) s ≡ false) ⌝ }
+    ensures { λ r. ⌜ r ≡ twinAt (leafIn (now (leaf .entry))) s ⌝ }
+{
+    if hits % 2 == 0 {
+        return false;
+    }
+    is_twin(leaf, head, s)
+}
+
+// Whether two keys of the leaf are equal: only slots that were hit are compared with the lower ones.
+pub fn has_twins(leaf: &[u8], head: Header, hits: u64) -> bool
+    requires { ⌜ (256 ≤ length (now leaf)) × (bitsOf head ≡ headAt (now leaf) 0) × Hits (leafIn (now leaf)) 14 hits ⌝ }
     ensures { λ r. ⌜ r ≡ twins (leafIn (now (leaf .entry))) ⌝ }
 {
-    let mut s = 0;
-    while s < Leaf::SLOTS {
-        if is_twin(leaf, head, s) {
+    let mut left = hits;
+    let mut s = Leaf::SLOTS;
+    while 0 < s {
+        s -= 1;
+        if is_hit_twin(leaf, head, s, left) {
             return true;
         }
-        s += 1;
+        left = left / 2;
     }
     false
 }

@@ -55,7 +55,7 @@ fn tell_leaf(leaf: &[u8])
     tell(smallest_key(leaf));
     tell(number_of(lowest_vacant(head)));
     tell(t.wrong);
-    if has_twins(leaf, head) {
+    if has_twins(leaf, head, t.hits) {
         tell(1);
     } else {
         tell(0);

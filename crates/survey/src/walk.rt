@@ -16,6 +16,7 @@ ghost use Rattle.words.specs.Bools.{both};
 ghost use Rattle.header.specs.Header.{headAt, bitsOf};
 ghost use Rattle.leaf.specs.Leaf.{leafIn, view};
 ghost use Rattle.leaf.specs.Tally.{twins};
+ghost use Rattle.leaf.specs.TallySteps.{Hits};
 ghost use Rattle.survey.specs.Marks.{setOf, isIn};
 ghost use Rattle.survey.specs.Walk.{stateOf, firstFault, stopped, moved, faultBy, judged, start, surveyed};
 
@@ -133,19 +134,20 @@ fn is_low(entries: u64, low: u64) -> bool
 
 // Whether two keys are equal, where no hit says that none are.
 fn is_twinned(leaf: &[u8], head: Header, hits: u64) -> bool
-    requires { ⌜ (256 ≤ length (now leaf)) × (bitsOf head ≡ headAt (now leaf) 0) × (hits ≡ 0 → twins (leafIn (now leaf)) ≡ false) ⌝ }
+    requires { ⌜ (256 ≤ length (now leaf)) × (bitsOf head ≡ headAt (now leaf) 0) × (hits ≡ 0 → twins (leafIn (now leaf)) ≡ false)
+        × Hits (leafIn (now leaf)) 14 hits ⌝ }
     ensures { λ r. ⌜ r ≡ twins (leafIn (now (leaf .entry))) ⌝ }
 {
     if hits == 0 {
         return false;
     }
-    has_twins(leaf, head)
+    has_twins(leaf, head, hits)
 }
 
 // The fault of a leaf whose active sibling and tally are told, or 0.
 fn fault_of(leaf: &[u8], head: Header, n: u64, w: Walk, next: u64, t: Tally) -> u64
     requires { ⌜ (256 ≤ length (now leaf)) × (n ≤ 256) × (bitsOf head ≡ headAt (now leaf) 0)
-        × (t .hits ≡ 0 → twins (leafIn (now leaf)) ≡ false) ⌝ }
+        × (t .hits ≡ 0 → twins (leafIn (now leaf)) ≡ false) × Hits (leafIn (now leaf)) 14 (t .hits) ⌝ }
     ensures { λ r. ⌜ r ≡ faultBy n next (bitsOf head) (twins (leafIn (now (leaf .entry)))) t (stateOf w) ⌝ }
 {
     if n <= next {

@@ -1,39 +1,37 @@
--- The invariant: none of the first s slots is a twin.
-use borrow.Author.Needs.{needs}
+-- The invariant: the first s slots, whose hits are left, have what twins there are.
 use native.Mathlib.Omega.{arith}
-use Prim.Native.Nat.{_-_, _≤_}
-use native.Mathlib.Numerals.{add-one}
-use mathlib.Core.Path.{_≡_, refl, sym, _∙_}
-use mathlib.Core.Bool.{false}
+use Prim.Native.Nat.{ℕ, suc, _-_, _≤_}
+use mathlib.Core.Path.{_≡_, sym, subst, _∙_}
 use denote.Ref.{now}
 use Rattle.leaf.specs.Leaf.{leafIn}
-use Rattle.leaf.specs.Tally.{someTo, twinAt}
-use Rattle.leaf.specs.TallySteps.{some-next, twins-found, twins-none}
+use Rattle.leaf.specs.TallySteps.{Left, left-whole, left-next, left-none, twins-found}
 use Rattle.leaf.proofs.tally.has_twins.Statement.{statement}
 use Rattle.leaf.proofs.tally.has_twins.Tie as tie
 
 abbrev Inv-loop : tie.InvT-loop
-Inv-loop leaf head s₀ s = (s ≤ 14) × (someTo (twinAt (leafIn leaf)) s ≡ false)
+Inv-loop leaf head hits left₀ s₀ left s = (s ≤ 14) × Left (leafIn leaf) s left
 
 abbrev μ-loop : tie.MeasureT-loop
-μ-loop leaf head s₀ s = 14 - s
-
-loop-holds : tie.Need-loop-holds Inv-loop μ-loop
-unfolding someTo
-loop-holds c = (omega arith, refl)
+μ-loop leaf head hits left₀ s₀ left s = s
 
 pub has-twins-spec : {M : Type 1} → statement M
 has-twins-spec =
     tie.close
-    (tie.spec Inv-loop μ-loop loop-holds (λ c κs. search needs)
+    (tie.spec Inv-loop μ-loop
+    (λ c. let st = c .before in (omega arith, left-whole (now (st .args .leaf)) _ (st .pre .2)))
+    (λ c. omega arith)
+    (λ c κs. let k = c .before in let st = k .before .before in
+    let q : k .loop .s ≡ suc (k .loop .s - 1) = omega arith in
+    let now-left : Left (leafIn (now (st .args .leaf))) (suc (k .loop .s - 1)) (k .loop .left) = rw q at (k .loop .inv .1) in
+    (omega arith, omega arith, st .pre .1, now-left .told .0))
     (λ c. let k = c .before .before .before in
-    twins-found _ (k .loop .s) (omega arith) (sym (c .before .is-twin .ensures) ∙ c .if1 .taken))
+    twins-found _ (k .loop .s - 1) (omega arith) (sym (c .before .is-hit-twin .ensures) ∙ c .if1 .taken))
     (λ c. omega arith)
-    (λ c. omega arith)
-    (λ c. let k = c .before .before .before in (
+    (λ c. let k = c .before .before .before in let st = k .before .before in
+    let q : k .loop .s ≡ suc (k .loop .s - 1) = omega arith in
+    let L = leafIn (now (st .args .leaf)) in (
       omega arith,
-      rw (add-one (k .loop .s))
-          (some-next (twinAt (leafIn (now (k .before .before .args .leaf)))) (k .loop .s) (k .loop .inv .1)
-          (sym (c .before .is-twin .ensures) ∙ c .if1 .left)),
+      left-next L (k .loop .s - 1) (k .loop .left) (subst (λ (n : ℕ). Left L n (k .loop .left)) q (k .loop .inv .1))
+          (sym (c .before .is-hit-twin .ensures) ∙ c .if1 .left),
     ))
-    (λ c. let k = c .before in twins-none _ (k .loop .s) (omega arith) (k .loop .inv .1)))
+    (λ c. let k = c .before in left-none _ (k .loop .s) (k .loop .left) (omega arith) (k .loop .inv .1)))

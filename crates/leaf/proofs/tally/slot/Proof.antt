@@ -17,6 +17,12 @@ note-requires c κs =
       c .before .before .stamp .ensures .2,
     )
 
+pass-over-requires : tie.Need-pass-over-requires
+pass-over-requires c κs =
+    let st = c .before .before .before .before in
+    let a = st .args in
+    tells-few (leafIn (now (a .leaf))) (a .last) (a .sought) (a .s) (a .t) (omega arith) (st .pre .4) .hits
+
 returns : tie.Need-returns
 returns c =
     let m = c .before .before .before in
@@ -40,11 +46,11 @@ returns c =
 
 returns-2 : tie.Need-returns-2
 returns-2 c =
-    let o = c .before in
+    let o = c .before .before in
     let st = o .before .before .before in
     let a = st .args in
-    let v = sym (o .occupied .ensures ∙ in-occ _ _ (st .pre .2) _ (omega arith)) ∙ c .if1 .left in (
-      tells-vacant (leafIn (now (a .leaf))) (a .last) (a .sought) (a .s) (a .number) (now (a .stamps)) (a .t) (st .pre .4) v,
+    let v = sym (o .occupied .ensures ∙ in-occ _ _ (st .pre .2) _ (omega arith)) ∙ c .before .if1 .left in (
+      tells-vacant (leafIn (now (a .leaf))) (a .last) (a .sought) (a .s) (a .number) (now (a .stamps)) (a .t) (st .pre .4) _ v (c .pass-over .ensures),
       stamped-vacant (leafIn (now (a .leaf))) (a .number) (a .s) (now (a .stamps)) (st .pre .5) v,
       refl,
     )
@@ -54,4 +60,4 @@ slot-spec =
     tie.close
     (tie.spec
     (λ c κs. search needs) (λ c κs. search needs) (λ c κs. search needs) (λ c κs. search needs) note-requires
-    (λ c. search needs) returns returns-2)
+    (λ c. search needs) returns pass-over-requires returns-2)

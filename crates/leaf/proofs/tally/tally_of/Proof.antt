@@ -39,7 +39,8 @@ returns : tie.Need-returns Inv-loop μ-loop
 returns c =
     let k = c .before in
     let a = k .before .before .before .args in
-    (tells-whole (now (a .leaf)) (a .last) (a .sought) (k .loop .s) (k .loop .t) (k .loop .inv .2) (omega arith), k .loop .inv .1)
+    let w = tells-whole (now (a .leaf)) (a .last) (a .sought) (k .loop .s) (k .loop .t) (k .loop .inv .2) (omega arith) in
+    (w .0, w .1, k .loop .inv .1)
 
 pub tally-of-spec : {M : Type 1} → statement M
 tally-of-spec =

@@ -41,7 +41,7 @@ returns c =
           (t .tally-of .ensures .0)
           (n .next-of .ensures)
           (c .before .if1 .taken),
-      t .tally-of .ensures .1,
+      t .tally-of .ensures .2,
     )
 
 returns-2 : tie.Need-returns-2
@@ -59,7 +59,7 @@ returns-2 c =
           (n .next-of .ensures)
           (in-lock (now (a .leaf)) _ (n .before .read .ensures)))
           (c .before .if1 .left),
-      t .tally-of .ensures .1,
+      t .tally-of .ensures .2,
     )
 
 pub judge-spec : {M : Type 1} → statement M
