@@ -25,14 +25,13 @@ module _ (I : ℕ → Leaf) (N i b : ℕ) where
   unfolding chainFrom
   chain-over h = let q : N - i ≡ 0 = omega arith in rw q
 
-  -- the blocks still to come are of the image
-  abbrev pub Near : Type 0
-  Near = All (λ c. c < N) (chainFrom I (N - i) b)
+  -- of the blocks still to come each passes
+  abbrev pub Ahead : (ℕ → Type 0) → Type 0
+  Ahead P = All P (chainFrom I (N - i) b)
 
-  pub near-here : i < N → Near → b < N
+  pub ahead-here : (P : ℕ → Type 0) → i < N → Ahead P → P b
   unfolding chainFrom
-  near-here h n = let q : N - i ≡ suc (N - (i + 1)) = omega arith in (rw q at n) .0
+  ahead-here P h n = let q : N - i ≡ suc (N - (i + 1)) = omega arith in (rw q at n) .0
 
-pub near-next : (I : ℕ → Leaf) (N i b c : ℕ) → i < N → c ≡ I b .next → c ≢ 0 → Near I N i b → Near I N (i + 1) c
-near-next I N i b c h e nz n =
-    rw e ((subst (All (λ x. x < N)) (chain-on I N i b h (λ z. nz (e ∙ z))) n) .1)
+pub ahead-next : (I : ℕ → Leaf) (N i b c : ℕ) (P : ℕ → Type 0) → i < N → c ≡ I b .next → c ≢ 0 → Ahead I N i b P → Ahead I N (i + 1) c P
+ahead-next I N i b c P h e nz n = rw e ((subst (All P) (chain-on I N i b h (λ z. nz (e ∙ z))) n) .1)

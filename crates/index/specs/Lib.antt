@@ -3,6 +3,7 @@
 pub mod Reading
 pub mod SoundTest
 pub mod FindLaws
+pub mod Places
 pub mod Filling
 pub mod Along
 pub mod ListingLaws

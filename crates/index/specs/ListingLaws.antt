@@ -8,25 +8,23 @@ use Prim.Native.Nat.{ℕ, zero, suc, _+_, _-_, _≤_, _<_, min}
 use native.Mathlib.Numerals.{add-one}
 use native.Mathlib.Omega.{arith}
 use lib.Dec.{eqb}
-use lib.ListN.{length, take, set}
-use Rattle.words.specs.WordLaws.{Bytes}
-use Rattle.leaf.specs.Leaf.{Leaf, leafIn}
-use Rattle.leaf.specs.Search.{leastFrom}
-use Rattle.leaf.specs.SearchSteps.{key-small}
-use Rattle.leaf.specs.SearchLaws.{least-at}
-use Rattle.leaf.specs.declared.search.Slot.{Slot}
-use Rattle.leaf.specs.declared.search.Slot.the-variants.{At, Missing}
-use Rattle.steps.specs.Refusals.{badImage, row-given, row-left}
-use Rattle.survey.specs.Walk.{surveyed}
+use lib.ListN.{length, take, drop, getD, set, length-take, drop-of-length-le}
+use lib.Seq.{drop-cons, getD-take}
+use Rattle.leaf.specs.Leaf.{Leaf, Taken, Right, leafIn}
+use Rattle.steps.specs.Refusals.{badImage}
 use Rattle.image.specs.Map.{Entry, startingAt}
 use Rattle.image.specs.Chain.{All}
 use Rattle.image.specs.Image.{blocks, leaves}
-use Rattle.image.specs.Order.{slotsFrom, slotsOf}
+use Rattle.image.specs.ChainLaws.{Good, sound-good, all-map, all-zip, all-split}
+use Rattle.image.specs.Order.{slotsFrom, slotsOf, slots-from}
 use Rattle.image.specs.Entries.{entryIn, entriesIn, entriesOf, listOf, list-from}
+use Rattle.survey.specs.Walk.{surveyed}
 use Rattle.index.specs.Reading.{chainFrom, entriesIn as inMap, over}
 use Rattle.index.specs.Reading.{counted, listedAs, Listing, listingIs, listed, listingOf}
+use Rattle.steps.specs.Refusals.{row-given, row-left}
 use Rattle.index.specs.SoundTest.{says-yes, says-no, noted-target}
 use Rattle.index.specs.Filling.{Buffers, buffers, fill, fill-full, fill-one, fill-append, fill-whole}
+use Rattle.index.specs.Places.{Placed, placed-last}
 use Rattle.index.specs.Along.{chain-on, chain-last, chain-over}
 use Rattle.index.specs.declared.listing.Listed.the-variants.{Count, BadImage, Unsound}
 
@@ -36,55 +34,48 @@ use Rattle.index.specs.declared.listing.Listed.the-variants.{Count, BadI
 unfoldable pub entriesFrom : Leaf → ℕ → List Entry
 entriesFrom L lo = entriesIn L (slotsFrom L (L .size) lo)
 
--- those still to come from lo on, where i of the 14 turns are over
-unfoldable pub leafRest : Leaf → ℕ → ℕ → List Entry
-leafRest L i lo = entriesIn L (slotsFrom L (14 - i) lo)
+module _ (L : Leaf) (room i n : ℕ) (ss ks vs : List ℕ) (whole : Buffers)
+    (so-far : fill room (entriesIn L (drop i ss)) (buffers n ks vs) ≡ whole) where
+  pub slots-end : length ss ≤ i → buffers n ks vs ≡ whole
+  unfolding entriesIn fill
+  slots-end h = rw (drop-of-length-le ss h) at so-far
 
-pub leaf-begin : (l : List ℕ) (lo : ℕ) → leafRest (leafIn l) 0 lo ≡ entriesFrom (leafIn l) lo
-unfolding leafRest entriesFrom leafIn
-leaf-begin l lo = refl
+  pub slots-full : room ≤ n → buffers n ks vs ≡ whole
+  slots-full h = sym (fill-full room (entriesIn L (drop i ss)) (buffers n ks vs) h) ∙ so-far
 
-slots-none : (L : Leaf) (n lo : ℕ) → leastFrom L lo ≡ Missing → slotsFrom L n lo ≡ []
-unfolding slotsFrom
-slots-none L zero lo e = refl
-slots-none L (suc n) lo e = rw e
+  pub slots-next : (s k v : ℕ) → i < length ss → n < room → s ≡ getD ss i 0 → k ≡ L .key s → v ≡ L .val s
+      → fill room (entriesIn L (drop (i + 1) ss)) (buffers (n + 1) (set ks n k) (set vs n v)) ≡ whole
+  unfolding entriesIn
+  slots-next s k v turn has-room at key value =
+      rw (key, value, at, add-one i)
+      (sym (fill-one room (entryIn L (getD ss i 0)) (entriesIn L (drop (suc i) ss)) (buffers n ks vs) has-room)
+      ∙ (rw (drop-cons ss i 0 turn) at so-far))
 
-none-above : (L : Leaf) (lo : ℕ) → ((t : ℕ) → L .key t < lo) → leastFrom L lo ≡ Missing
-none-above L lo h = go (leastFrom L lo) refl
-  where
-    go : (x : Slot) → leastFrom L lo ≡ x → leastFrom L lo ≡ Missing
-    go (At t) e = absurd (omega (arith, h t, least-at L lo t e .from))
-    go Missing e = e
+all-at : (P : ℕ → Type 0) (ss : List ℕ) (i : ℕ) → All P ss → i < length ss → P (getD ss i 0)
+all-at P [] i a h = absurd (omega arith)
+all-at P (s ∷ ss) zero a h = a .0
+all-at P (s ∷ ss) (suc i) a h = all-at P ss i (a .1) (omega arith)
 
-module _ (L : Leaf) (room i lo n : ℕ) (ks vs : List ℕ) (whole : Buffers)
-    (so-far : fill room (leafRest L i lo) (buffers n ks vs) ≡ whole) where
-  pub leaf-end : 14 ≤ i → buffers n ks vs ≡ whole
-  unfolding leafRest slotsFrom entriesIn fill
-  leaf-end h = let q : 14 - i ≡ 0 = omega arith in rw q at so-far
+-- the first so many slots of an order
+module _ (order : List ℕ) (n : ℕ) (h : n ≤ length order) where
+  pub first-length : length (take n order) ≡ n
+  first-length = omega (arith, length-take n order)
 
-  pub leaf-full : room ≤ n → buffers n ks vs ≡ whole
-  leaf-full h = sym (fill-full room (leafRest L i lo) (buffers n ks vs) h) ∙ so-far
+  pub first-at : (i : ℕ) → i < n → All (λ s. s < 14) (take n order) → getD order i 0 < 14
+  first-at i b a = rw (← getD-take n order i 0 b) (all-at (λ s. s < 14) (take n order) i a (omega (arith, first-length)))
 
-  pub leaf-none : leastFrom L lo ≡ Missing → buffers n ks vs ≡ whole
-  unfolding leafRest entriesIn fill
-  leaf-none e = rw (slots-none L (14 - i) lo e) at so-far
+module _ (l : List ℕ) (r : Right (leafIn l)) (lo : ℕ) (n : ℕ) (order : List ℕ) (b : length order ≡ 14)
+    (e : n ≡ length (slotsFrom (leafIn l) 14 lo)) (p : Placed (leafIn l) lo 14 order) where
+  order-is : take n order ≡ slotsFrom (leafIn l) 14 lo
+  order-is = rw e (placed-last l r lo order p b)
 
-  module _ (s k v : ℕ) (turn : i < 14) (has-room : n < room) (found : leastFrom L lo ≡ At s) (key : k ≡ L .key s)
-      (value : v ≡ L .val s) where
-    pub leaf-next : fill room (leafRest L (i + 1) (k + 1)) (buffers (n + 1) (set ks n k) (set vs n v)) ≡ whole
-    unfolding leafRest slotsFrom entriesIn
-    leaf-next =
-        let q : 14 - i ≡ suc (14 - (i + 1)) = omega arith in
-        rw (key, value, add-one (L .key s))
-        (sym (fill-one room (entryIn L s) (entriesIn L (slotsFrom L (14 - (i + 1)) (suc (L .key s)))) (buffers n ks vs) has-room)
-        ∙ (rw (q, found) at so-far))
+  pub order-inside : All (λ s. s < 14) (take n order)
+  unfolding leafIn
+  order-inside = rw order-is (all-map (λ s. Taken (leafIn l) s) (λ s. s < 14) (λ s a. r .inside s a) (slotsFrom (leafIn l) 14 lo) (slots-from (leafIn l) r lo .taken))
 
--- no key is above 2^64 - 1
-pub leaf-last : (l : List ℕ) (room i k : ℕ) (b whole : Buffers) → Bytes l → k ≡ 18446744073709551615
-    → fill room (leafRest (leafIn l) i (k + 1)) b ≡ whole → b ≡ whole
-unfolding leafRest entriesIn fill
-leaf-last l room i k b whole bytes e so-far =
-    rw (slots-none (leafIn l) (14 - i) (k + 1) (none-above (leafIn l) (k + 1) (λ t. omega (arith, key-small l t bytes)))) at so-far
+  pub order-lists : entriesIn (leafIn l) (take n order) ≡ entriesFrom (leafIn l) lo
+  unfolding entriesFrom leafIn
+  order-lists = ap (entriesIn (leafIn l)) order-is
 
 -- ---- the leaves of a chain
 
@@ -132,8 +123,13 @@ module _ (I : ℕ → Leaf) (N room i b lo : ℕ) (st whole : Buffers)
 -- ---- the answers
 
 module _ (l : List ℕ) (from : ℕ) (fine : badImage (length l) ≡ false) (sound : surveyed (leaves l) (blocks l) from .stage ≡ 1) where
-  pub target-near : All (λ c. c < blocks l) (chainFrom (leaves l) (blocks l) (surveyed (leaves l) (blocks l) from .target))
-  target-near = let t = noted-target l from fine sound in subst (All (λ c. c < blocks l)) (sym (t .ahead)) (t .near)
+  pub target-near : All (λ c. (c < blocks l) × Right (leaves l c)) (chainFrom (leaves l) (blocks l) (surveyed (leaves l) (blocks l) from .target))
+  target-near =
+      let t = noted-target l from fine sound in
+      let bs = surveyed (leaves l) (blocks l) from .target ∷ t .behind in
+      let good = (all-split (Good (leaves l) (blocks l)) (t .front) bs (sound-good (leaves l) (blocks l) (t .sound))) .1 in
+      subst (All (λ c. (c < blocks l) × Right (leaves l c))) (sym (t .ahead))
+      (all-zip (λ c. c < blocks l) (Good (leaves l) (blocks l)) (λ c. (c < blocks l) × Right (leaves l c)) (λ c h g. (h, g .right)) bs (t .near) good)
 
   -- what the leaves from the target on hold from the key on are the map's entries from it on
   target-lists : listFrom (leaves l) from (chainFrom (leaves l) (blocks l) (surveyed (leaves l) (blocks l) from .target))

@@ -1,4 +1,5 @@
 // The calls that read an image.
 pub mod find;
 pub mod listing;
+mod order;
 pub mod recovery;

@@ -1,17 +1,17 @@
 // Listing: the entries from a key on, rising, into two lent buffers.
+use crate::order::order_from;
 use leaf::place::Leaf;
-use leaf::search::Slot;
 use leaf::search::key_at;
-use leaf::search::least_from;
 use leaf::search::value_at;
 use machine::bad_image;
 use survey::along::next_block;
 use survey::walk::survey;
 ghost use mathlib.Core.Path.{_≡_};
 ghost use Prim.Native.Nat.{_+_, _*_, _/_, _≤_, _<_, min};
-ghost use lib.ListN.{length};
-ghost use Rattle.leaf.specs.Leaf.{leafIn};
+ghost use lib.ListN.{length, take};
+ghost use Rattle.leaf.specs.Leaf.{leafIn, Right};
 ghost use Rattle.image.specs.Chain.{All};
+ghost use Rattle.image.specs.Entries.{entriesIn};
 ghost use Rattle.image.specs.Image.{blocks, leaves};
 ghost use Rattle.index.specs.Reading.{chainFrom, listedAs, listingIs, listingOf};
 ghost use Rattle.index.specs.Filling.{buffers, fill};
@@ -23,10 +23,38 @@ pub enum Listed {
     Unsound,
 }
 
-// No key is above this one.
-const LAST_KEY: u64 = 18446744073709551615;
+// The entries of the first `count` slots of an order, put behind those that the buffers hold already, while there is room.
+fn list_slots(
+    leaf: &[u8],
+    order: &[u64],
+    count: usize,
+    keys: &mut [u64],
+    values: &mut [u64],
+    room: usize,
+    used: usize,
+) -> usize
+    requires { ⌜ (256 ≤ length (now leaf)) × (room ≤ length (now keys)) × (room ≤ length (now values)) × (length (now order) ≡ 14)
+        × (count ≤ 14) × All (λ s. s < 14) (take count (now order)) ⌝ }
+    ensures { λ r. ⌜ buffers r (now (keys .exit)) (now (values .exit))
+        ≡ fill room (entriesIn (leafIn (now (leaf .entry))) (take count (now (order .entry))))
+        (buffers used (now (keys .entry)) (now (values .entry))) ⌝ }
+{
+    let mut n = used;
+    let mut i = 0;
+    while i < count {
+        if room <= n {
+            return n;
+        }
+        let s = order[i] as usize;
+        keys[n] = key_at(leaf, s);
+        values[n] = value_at(leaf, s);
+        n += 1;
+        i += 1;
+    }
+    n
+}
 
-// The entries of a leaf with keys from `from` on, put behind those that the buffers hold already, while there is room.
+// The entries of a leaf with keys from `from` on.
 fn list_leaf(
     leaf: &[u8],
     from: u64,
@@ -35,31 +63,13 @@ fn list_leaf(
     room: usize,
     used: usize,
 ) -> usize
-    requires { ⌜ (256 ≤ length (now leaf)) × (room ≤ length (now keys)) × (room ≤ length (now values)) ⌝ }
+    requires { ⌜ (256 ≤ length (now leaf)) × Right (leafIn (now leaf)) × (room ≤ length (now keys)) × (room ≤ length (now values)) ⌝ }
     ensures { λ r. ⌜ buffers r (now (keys .exit)) (now (values .exit))
         ≡ fill room (entriesFrom (leafIn (now (leaf .entry))) from) (buffers used (now (keys .entry)) (now (values .entry))) ⌝ }
 {
-    let mut n = used;
-    let mut lo = from;
-    let mut i = 0;
-    while i < Leaf::SLOTS {
-        if room <= n {
-            return n;
-        }
-        let Slot::At(s) = least_from(leaf, lo) else {
-            return n;
-        };
-        let key = key_at(leaf, s);
-        keys[n] = key;
-        values[n] = value_at(leaf, s);
-        n += 1;
-        if key == LAST_KEY {
-            return n;
-        }
-        lo = key + 1;
-        i += 1;
-    }
-    n
+    let mut order = [0u64; 14];
+    let count = order_from(leaf, from, &mut order);
+    list_slots(leaf, &order, count, keys, values, room, used)
 }
 
 fn list_block(
@@ -71,7 +81,8 @@ fn list_block(
     room: usize,
     used: usize,
 ) -> usize
-    requires { ⌜ (256 * block + 256 ≤ length (now image)) × (room ≤ length (now keys)) × (room ≤ length (now values)) ⌝ }
+    requires { ⌜ (256 * block + 256 ≤ length (now image)) × Right (leaves (now image) block) × (room ≤ length (now keys))
+        × (room ≤ length (now values)) ⌝ }
     ensures { λ r. ⌜ buffers r (now (keys .exit)) (now (values .exit))
         ≡ fill room (entriesFrom (leaves (now (image .entry)) block) from) (buffers used (now (keys .entry)) (now (values .entry))) ⌝ }
 {
@@ -90,7 +101,8 @@ fn list_chain(
     room: usize,
 ) -> usize
     requires { ⌜ (256 * blocks (now image) ≤ length (now image)) × (room ≤ length (now keys)) × (room ≤ length (now values))
-        × All (λ b. b < blocks (now image)) (chainFrom (leaves (now image)) (blocks (now image)) target) ⌝ }
+        × All (λ b. (b < blocks (now image)) × Right (leaves (now image) b))
+        (chainFrom (leaves (now image)) (blocks (now image)) target) ⌝ }
     ensures { λ r. ⌜ buffers r (now (keys .exit)) (now (values .exit))
         ≡ fill room (listFrom (leaves (now (image .entry))) from
         (chainFrom (leaves (now (image .entry))) (blocks (now (image .entry))) target))

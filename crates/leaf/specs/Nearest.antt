@@ -8,13 +8,12 @@ use native.Mathlib.Numerals.{add-one}
 use native.Mathlib.Omega.{arith}
 use borrow.Author.Tests.{lt-ltb, le-ltb, leb-true, ltb-true, ltb-false}
 use lib.Dec.{leb, ltb}
-use Rattle.words.specs.Words.{reads}
 use Rattle.words.specs.WordLaws.{Bytes}
 use Rattle.header.specs.Header.{headAt}
 use Rattle.words.specs.Bools.{both, both-true, by-test, not-so}
 use Rattle.leaf.specs.Leaf.{Leaf, Taken, occIn, leafIn}
 use Rattle.leaf.specs.Search.{pickSlot, lowest, Within, nearer, closer, closest, leastFrom}
-use Rattle.leaf.specs.SearchSteps.{key-small}
+use Rattle.leaf.specs.SearchSteps.{in-occs, key-small}
 use Rattle.leaf.specs.SearchLaws.{Least, Answers, answers, lowest-at, lowest-is}
 use Rattle.leaf.specs.declared.search.Best.{Best}
 use Rattle.leaf.specs.declared.search.Slot.{Slot}
@@ -118,10 +117,6 @@ module _ (L : Leaf) (k : ℕ) where
 
 -- ---- the answers
 
-occ-whole : (l : List ℕ) (h : ℕ) → h ≡ headAt l 0 → occIn h ≡ leafIn l .occ
-unfolding leafIn reads headAt
-occ-whole l h e = rw e refl
-
 module _ (l : List ℕ) (k : ℕ) (bytes : Bytes l) (best : Best) (is : best ≡ nearestTo (leafIn l) k 14) where
   key-furthest : (s : ℕ) → leafIn l .key s ≤ furthest
   key-furthest s = omega (arith, key-small l s bytes)
@@ -163,7 +158,7 @@ module _ (l : List ℕ) (k : ℕ) (bytes : Bytes l) (best : Best) (is : best ≡
   unfolding leastFrom leafIn
   nearest-last b z head e r q =
       let f : r ≡ closest (leafIn l) k 14 =
-      q ∙ ap (λ (o : ℕ → Bool). lowest o 14 0) (occ-whole l head e) ∙ by (closest (leafIn l) k 14) refl held in
+      q ∙ ap (λ (o : ℕ → Bool). lowest o 14 0) (in-occs l head e) ∙ by (closest (leafIn l) k 14) refl held in
       (f, subst (Within 14) (sym f) (within (closest (leafIn l) k 14) (answers (leafIn l) k 14)))
     where
       within : (x : Slot) → Answers (leafIn l) k 14 x → Within 14 x

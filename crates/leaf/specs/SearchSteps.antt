@@ -10,7 +10,7 @@ use lib.Dec.{eqb}
 use Rattle.words.specs.Words.{wordAt, reads}
 use Rattle.words.specs.WordLaws.{Bytes, word-small}
 use Rattle.header.specs.Header.{headAt, altIn, isLocked, isOccupied, fingerprintIn, fingerprintOf}
-use Rattle.leaf.specs.Leaf.{Leaf, leafIn}
+use Rattle.leaf.specs.Leaf.{Leaf, occIn, leafIn}
 use Rattle.leaf.specs.LeafLaws.{occ-in}
 use Rattle.leaf.specs.Search.{pickSlot, lowest, holdsKey, slotOf, countTo}
 use Rattle.leaf.specs.declared.search.Slot.the-variants.{At, Missing}
@@ -21,6 +21,10 @@ module _ (l : List ℕ) (h : ℕ) (head : h ≡ headAt l 0) where
   pub in-occ : (s : ℕ) → s < 14 → isOccupied h s ≡ leafIn l .occ s
   unfolding leafIn reads headAt
   in-occ s b = rw head (sym (occ-in (headAt l 0) s b))
+
+  pub in-occs : occIn h ≡ leafIn l .occ
+  unfolding leafIn reads headAt
+  in-occs = rw head refl
 
   pub in-fp : (s : ℕ) → fingerprintIn h s ≡ leafIn l .fp s
   unfolding leafIn reads headAt

@@ -6,18 +6,19 @@ use mathlib.Core.Path.{_≡_, refl, sym, ap, subst}
 use mathlib.Core.List.{List}
 use denote.Ref.{now}
 use lib.ListN.{length}
+use Rattle.leaf.specs.Leaf.{Right}
 use Rattle.image.specs.Chain.{All}
 use Rattle.image.specs.Image.{blocks, leaves}
 use Rattle.index.specs.Reading.{chainFrom}
 use Rattle.index.specs.Filling.{buffers, fill}
-use Rattle.index.specs.Along.{chain-whole, Near, near-here, near-next}
+use Rattle.index.specs.Along.{chain-whole, Ahead, ahead-here, ahead-next}
 use Rattle.index.specs.ListingLaws.{listFrom, chain-done, chain-next, chain-ends, chain-full}
 use Rattle.index.proofs.listing.list_chain.Statement.{statement}
 use Rattle.index.proofs.listing.list_chain.Tie as tie
 
 abbrev Inv-loop : tie.InvT-loop
 Inv-loop image target from keys₀ values₀ room turns block₀ lo₀ n₀ i₀ keys values block lo n i =
-    (i ≤ turns) × (length keys ≡ length keys₀) × (length values ≡ length values₀) × Near (leaves image) turns i block
+    (i ≤ turns) × (length keys ≡ length keys₀) × (length values ≡ length values₀) × Ahead (leaves image) turns i block (λ c. (c < turns) × Right (leaves image c))
     × (fill room (listFrom (leaves image) lo (chainFrom (leaves image) (turns - i) block)) (buffers n keys values)
     ≡ fill room (listFrom (leaves image) from (chainFrom (leaves image) turns target)) (buffers 0 keys₀ values₀))
 
@@ -33,24 +34,22 @@ loop-holds c =
       omega arith,
       refl,
       refl,
-      subst (All (λ b. b < blocks l)) (sym w) (st .pre .3),
+      subst (All (λ b. (b < blocks l) × Right (leaves l b))) (sym w) (st .pre .3),
       ap (λ (bs : List ℕ). fill (a .room) (listFrom (leaves l) (a .from) bs) (buffers 0 (now (a .keys)) (now (a .values)))) w,
     )
 
 list-block-requires : tie.Need-list-block-requires Inv-loop μ-loop
 list-block-requires c κs =
     let k = c .before .before .before in
-    let l = now (k .before .before .before .before .args .image) in (
-      omega (arith, near-here (leaves l) (blocks l) (k .loop .i) (k .loop .block) (omega arith) (k .loop .inv .3)),
-      omega arith,
-      omega arith,
-    )
+    let l = now (k .before .before .before .before .args .image) in
+    let here = ahead-here (leaves l) (blocks l) (k .loop .i) (k .loop .block) (λ c. (c < blocks l) × Right (leaves l c)) (omega arith) (k .loop .inv .3) in
+    (omega (arith, here .0), here .1, omega arith, omega arith)
 
 next-block-requires : tie.Need-next-block-requires Inv-loop μ-loop
 next-block-requires c κs =
     let k = c .before .before .before .before .before .before .before .before .before in
     let l = now (k .before .before .before .before .args .image) in
-    omega (arith, near-here (leaves l) (blocks l) (k .loop .i) (k .loop .block) (omega arith) (k .loop .inv .3))
+    omega (arith, ahead-here (leaves l) (blocks l) (k .loop .i) (k .loop .block) (λ c. (c < blocks l) × Right (leaves l c)) (omega arith) (k .loop .inv .3) .0)
 
 returns : tie.Need-returns Inv-loop μ-loop
 returns c =
@@ -82,7 +81,7 @@ loop-again c =
       omega arith,
       search needs,
       search needs,
-      near-next (leaves l) (blocks l) (k .loop .i) (k .loop .block) (e .next-block .result) t (e .next-block .ensures) (c .if2 .left)
+      ahead-next (leaves l) (blocks l) (k .loop .i) (k .loop .block) (e .next-block .result) (λ c. (c < blocks l) × Right (leaves l c)) t (e .next-block .ensures) (c .if2 .left)
           (k .loop .inv .3),
       chain-next (leaves l) (blocks l) (a .room) (k .loop .i) (k .loop .block) (k .loop .lo) _ _ (k .loop .inv .4) t _
           (d .list-block .ensures) (e .next-block .result) (e .next-block .ensures) (c .if2 .left),

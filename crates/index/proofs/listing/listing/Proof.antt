@@ -3,9 +3,10 @@ use native.Mathlib.Omega.{arith}
 use Prim.Native.Nat.{ℕ, _<_}
 use mathlib.Core.Path.{sym, ap, _∙_, subst}
 use denote.Ref.{now}
-use Rattle.survey.specs.Walk.{State}
+use Rattle.leaf.specs.Leaf.{Right}
 use Rattle.image.specs.Chain.{All}
 use Rattle.image.specs.Image.{blocks, leaves}
+use Rattle.survey.specs.Walk.{State}
 use Rattle.index.specs.Reading.{chainFrom}
 use Rattle.index.specs.SoundTest.{long-enough}
 use Rattle.index.specs.ListingLaws.{target-near, listing-bad, listing-unsound, listing-done}
@@ -24,7 +25,7 @@ list-chain-requires c κs =
       omega arith,
       omega (arith, r .shorter .ensures),
       omega (arith, r .shorter .ensures),
-      subst (λ (t : ℕ). All (λ x. x < blocks l) (chainFrom (leaves l) (blocks l) t))
+      subst (λ (t : ℕ). All (λ x. (x < blocks l) × Right (leaves l x)) (chainFrom (leaves l) (blocks l) t))
           (sym (ap (λ (st : State). st .target) (s .survey .ensures)))
           (target-near l (a .from) fine sound),
     )
@@ -53,8 +54,7 @@ listing-spec =
     (tie.spec (λ c κs. search needs)
     (λ c. let a = c .before .before .before .before .before .args in
     listing-bad (now (a .image)) (a .from) (now (a .keys)) (now (a .values)) (sym (c .before .bad-image .ensures) ∙ c .if1 .taken))
-    (λ c κs. long-enough (now (c .before .before .before .before .before .args .image))
-    (sym (c .before .bad-image .ensures) ∙ c .if1 .left))
+    (λ c κs. long-enough (now (c .before .before .before .before .before .args .image)) (sym (c .before .bad-image .ensures) ∙ c .if1 .left))
     (λ c. let s = c .before .before in let b = s .before .before in let a = b .before .before .before .before .args in
     listing-unsound (now (a .image)) (a .from) (now (a .keys)) (now (a .values)) (sym (b .bad-image .ensures) ∙ s .before .if1 .left)
     (λ e. c .if2 .taken (ap (λ (st : State). st .stage) (s .survey .ensures) ∙ e)))

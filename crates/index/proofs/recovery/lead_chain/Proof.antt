@@ -10,14 +10,14 @@ use Rattle.image.specs.Chain.{All}
 use Rattle.image.specs.Image.{blocks, leaves}
 use Rattle.index.specs.Reading.{chainFrom}
 use Rattle.index.specs.Filling.{buffers, fill}
-use Rattle.index.specs.Along.{chain-whole, Near, near-here, near-next}
+use Rattle.index.specs.Along.{chain-whole, Ahead, ahead-here, ahead-next}
 use Rattle.index.specs.RecoveryLaws.{leadsOf, lead-done, lead-next, lead-ends}
 use Rattle.index.proofs.recovery.lead_chain.Statement.{statement}
 use Rattle.index.proofs.recovery.lead_chain.Tie as tie
 
 abbrev Inv-loop : tie.InvT-loop
 Inv-loop image smallest₀ numbers₀ turns block₀ i₀ smallest numbers block i =
-    (i ≤ turns) × (length smallest ≡ length smallest₀) × (length numbers ≡ length numbers₀) × Near (leaves image) turns i block
+    (i ≤ turns) × (length smallest ≡ length smallest₀) × (length numbers ≡ length numbers₀) × Ahead (leaves image) turns i block (λ c. c < turns)
     × (fill turns (leadsOf (leaves image) (chainFrom (leaves image) (turns - i) block)) (buffers i smallest numbers)
     ≡ fill turns (leadsOf (leaves image) (chainFrom (leaves image) turns 0)) (buffers 0 smallest₀ numbers₀))
 
@@ -40,13 +40,13 @@ smallest-in-requires : tie.Need-smallest-in-requires Inv-loop μ-loop
 smallest-in-requires c κs =
     let k = c .before in
     let l = now (k .before .before .before .before .args .image) in
-    omega (arith, near-here (leaves l) (blocks l) (k .loop .i) (k .loop .block) (omega arith) (k .loop .inv .3))
+    omega (arith, ahead-here (leaves l) (blocks l) (k .loop .i) (k .loop .block) (λ c. c < blocks l) (omega arith) (k .loop .inv .3))
 
 next-block-requires : tie.Need-next-block-requires Inv-loop μ-loop
 next-block-requires c κs =
     let k = c .before .before in
     let l = now (k .before .before .before .before .args .image) in
-    omega (arith, near-here (leaves l) (blocks l) (k .loop .i) (k .loop .block) (omega arith) (k .loop .inv .3))
+    omega (arith, ahead-here (leaves l) (blocks l) (k .loop .i) (k .loop .block) (λ c. c < blocks l) (omega arith) (k .loop .inv .3))
 
 returns : tie.Need-returns Inv-loop μ-loop
 returns c =
@@ -66,7 +66,7 @@ loop-again c =
       omega arith,
       length-set (k .loop .smallest) (k .loop .i) (d .smallest-in .result) ∙ k .loop .inv .1,
       length-set (k .loop .numbers) (k .loop .i) (k .loop .block) ∙ k .loop .inv .2,
-      near-next (leaves l) (blocks l) (k .loop .i) (k .loop .block) (c .before .next-block .result) t (c .before .next-block .ensures)
+      ahead-next (leaves l) (blocks l) (k .loop .i) (k .loop .block) (c .before .next-block .result) (λ c. c < blocks l) t (c .before .next-block .ensures)
           (c .if1 .left) (k .loop .inv .3),
       lead-next (leaves l) (blocks l) (k .loop .i) (k .loop .block) (k .loop .smallest) (k .loop .numbers) _ (k .loop .inv .4) t
           (d .smallest-in .result) (d .smallest-in .ensures) (c .before .next-block .result) (c .before .next-block .ensures)
