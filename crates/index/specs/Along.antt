@@ -33,5 +33,6 @@ module _ (I : ℕ → Leaf) (N i b : ℕ) where
   unfolding chainFrom
   ahead-here P h n = let q : N - i ≡ suc (N - (i + 1)) = omega arith in (rw q at n) .0
 
-pub ahead-next : (I : ℕ → Leaf) (N i b c : ℕ) (P : ℕ → Type 0) → i < N → c ≡ I b .next → c ≢ 0 → Ahead I N i b P → Ahead I N (i + 1) c P
+pub ahead-next : (I : ℕ → Leaf) (N i b c : ℕ) (P : ℕ → Type 0) → i < N → c ≡ I b .next → c ≢ 0 → Ahead I N i b P → Ahead I N
+    (i + 1) c P
 ahead-next I N i b c P h e nz n = rw e ((subst (All P) (chain-on I N i b h (λ z. nz (e ∙ z))) n) .1)

@@ -71,7 +71,9 @@ module _ (l : List ℕ) (r : Right (leafIn l)) (lo : ℕ) (n : ℕ) (order : Lis
 
   pub order-inside : All (λ s. s < 14) (take n order)
   unfolding leafIn
-  order-inside = rw order-is (all-map (λ s. Taken (leafIn l) s) (λ s. s < 14) (λ s a. r .inside s a) (slotsFrom (leafIn l) 14 lo) (slots-from (leafIn l) r lo .taken))
+  order-inside = rw order-is
+      (all-map (λ s. Taken (leafIn l) s) (λ s. s < 14) (λ s a. r .inside s a) (slotsFrom (leafIn l) 14 lo)
+      (slots-from (leafIn l) r lo .taken))
 
   pub order-lists : entriesIn (leafIn l) (take n order) ≡ entriesFrom (leafIn l) lo
   unfolding entriesFrom leafIn
@@ -122,14 +124,17 @@ module _ (I : ℕ → Leaf) (N room i b lo : ℕ) (st whole : Buffers)
 
 -- ---- the answers
 
-module _ (l : List ℕ) (from : ℕ) (fine : badImage (length l) ≡ false) (sound : surveyed (leaves l) (blocks l) from .stage ≡ 1) where
-  pub target-near : All (λ c. (c < blocks l) × Right (leaves l c)) (chainFrom (leaves l) (blocks l) (surveyed (leaves l) (blocks l) from .target))
+module _ (l : List ℕ) (from : ℕ) (fine : badImage (length l) ≡ false)
+    (sound : surveyed (leaves l) (blocks l) from .stage ≡ 1) where
+  pub target-near : All (λ c. (c < blocks l) × Right (leaves l c))
+      (chainFrom (leaves l) (blocks l) (surveyed (leaves l) (blocks l) from .target))
   target-near =
       let t = noted-target l from fine sound in
       let bs = surveyed (leaves l) (blocks l) from .target ∷ t .behind in
       let good = (all-split (Good (leaves l) (blocks l)) (t .front) bs (sound-good (leaves l) (blocks l) (t .sound))) .1 in
       subst (All (λ c. (c < blocks l) × Right (leaves l c))) (sym (t .ahead))
-      (all-zip (λ c. c < blocks l) (Good (leaves l) (blocks l)) (λ c. (c < blocks l) × Right (leaves l c)) (λ c h g. (h, g .right)) bs (t .near) good)
+      (all-zip (λ c. c < blocks l) (Good (leaves l) (blocks l)) (λ c. (c < blocks l) × Right (leaves l c))
+      (λ c h g. (h, g .right)) bs (t .near) good)
 
   -- what the leaves from the target on hold from the key on are the map's entries from it on
   target-lists : listFrom (leaves l) from (chainFrom (leaves l) (blocks l) (surveyed (leaves l) (blocks l) from .target))

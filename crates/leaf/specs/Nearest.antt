@@ -38,7 +38,8 @@ unfoldable pub nearestTo : Leaf → ℕ → ℕ → Best
 nearestTo L k zero = record { excess = furthest; slot = 14 }
 nearestTo L k (suc n) = nearerOf (excessOf L k n) n (nearestTo L k n)
 
-pub nearest-step : (L : Leaf) (k s : ℕ) (best r : Best) → best ≡ nearestTo L k s → r ≡ nearerOf (excessOf L k s) s best → r ≡ nearestTo L k (s + 1)
+pub nearest-step : (L : Leaf) (k s : ℕ) (best r : Best) → best ≡ nearestTo L k s → r ≡ nearerOf (excessOf L k s) s best
+    → r ≡ nearestTo L k (s + 1)
 unfolding nearestTo
 nearest-step L k s best r e q = rw (add-one s, q, e)
 
@@ -56,12 +57,14 @@ Holds L k best (At t) =
 Holds L k best Missing = (best .excess ≡ furthest) × (best .slot ≡ 14)
 
 module _ (L : Leaf) (k : ℕ) where
-  kept : (n : ℕ) (best : Best) (x : Slot) → excessOf L k n ≡ furthest → Holds L k best x → Holds L k (nearerOf (excessOf L k n) n best) x
+  kept : (n : ℕ) (best : Best) (x : Slot) → excessOf L k n ≡ furthest → Holds L k best x → Holds L k
+      (nearerOf (excessOf L k n) n best) x
   unfolding nearerOf
   kept n best (At t) e h = rw (e, le-ltb furthest (best .excess) (h .2)) h
   kept n best Missing e h = rw (e, le-ltb furthest (best .excess) (omega (arith, h .0))) h
 
-  taken-on : (n : ℕ) (best : Best) (x : Slot) → L .key n ≤ furthest → k ≤ L .key n → excessOf L k n ≡ L .key n - k → Holds L k best x
+  taken-on : (n : ℕ) (best : Best) (x : Slot) → L .key n ≤ furthest → k ≤ L .key n → excessOf L k n ≡ L .key n - k
+      → Holds L k best x
       → Holds L k (nearerOf (excessOf L k n) n best) (pickSlot (nearer L n x) n x)
   unfolding nearerOf
   taken-on n best (At t) b c e h = by-test
@@ -94,7 +97,8 @@ module _ (L : Leaf) (k : ℕ) where
       (sym e)
       (taken-on n (nearestTo L k n) (closest L k n) (b n) (leb-true k (L .key n) (p .1)) (rw z refl) (holds n b)))
       (λ q z. subst (λ (x : Slot). Holds L k (nearestTo L k (suc n)) x)
-      (sym (ap (λ (c : Bool). pickSlot c n (closest L k n)) (both-left (L .occ n) (leb k (L .key n)) (nearer L n (closest L k n)) z)))
+      (sym (ap (λ (c : Bool). pickSlot c n (closest L k n))
+      (both-left (L .occ n) (leb k (L .key n)) (nearer L n (closest L k n)) z)))
       (kept n (nearestTo L k n) (closest L k n) (rw z refl) (holds n b)))
       refl
 
@@ -110,7 +114,8 @@ module _ (L : Leaf) (k : ℕ) where
   ahead : (n : ℕ) → Ahead (closest L k n)
   unfolding closest
   ahead zero = tt
-  ahead (suc n) = by-test (λ z. Ahead (pickSlot z n (closest L k n))) (both (L .occ n) (both (leb k (L .key n)) (nearer L n (closest L k n))))
+  ahead (suc n) = by-test (λ z. Ahead (pickSlot z n (closest L k n)))
+      (both (L .occ n) (both (leb k (L .key n)) (nearer L n (closest L k n))))
       (λ e. let p = both-true (L .occ n) (both (leb k (L .key n)) (nearer L n (closest L k n))) e in
       ahead-now n (closest L k n) (both-true (leb k (L .key n)) (nearer L n (closest L k n)) (p .1) .1) (answers L k n))
       (λ e. ahead n)
@@ -136,7 +141,8 @@ module _ (l : List ℕ) (k : ℕ) (bytes : Bytes l) (best : Best) (is : best ≡
       by Missing e h = absurd (omega (arith, h .1))
 
   -- the slot that the code does not hold is the furthest from 0
-  unheld : (t : ℕ) → 14 ≤ best .slot → closest (leafIn l) k 14 ≡ At t → Holds (leafIn l) k best (At t) → (k ≡ 0) × (furthest ≤ leafIn l .key t)
+  unheld : (t : ℕ) → 14 ≤ best .slot → closest (leafIn l) k 14 ≡ At t → Holds (leafIn l) k best (At t) → (k ≡ 0) ×
+      (furthest ≤ leafIn l .key t)
   unheld t b e h =
       let a : Least (leafIn l) k 14 t = rw e at (answers (leafIn l) k 14) in
       let f : furthest ≤ best .excess = elim (decLt (best .excess) furthest) [
@@ -165,8 +171,10 @@ module _ (l : List ℕ) (k : ℕ) (bytes : Bytes l) (best : Best) (is : best ≡
       within (At t) a = a .below
       within Missing a = tt
 
-      none : ((t : ℕ) → t < 14 → Taken (leafIn l) t → leafIn l .key t < k) → (y : Slot) → lowest (leafIn l .occ) 14 0 ≡ y → y ≡ Missing
-      none a (At t) p = let w = lowest-at (leafIn l .occ) 14 0 t p in absurd (omega (arith, a t (omega (arith, w .below)) (w .passes)))
+      none : ((t : ℕ) → t < 14 → Taken (leafIn l) t → leafIn l .key t < k) → (y : Slot) → lowest (leafIn l .occ) 14 0 ≡ y
+          → y ≡ Missing
+      none a (At t) p = let w = lowest-at (leafIn l .occ) 14 0 t p in absurd
+          (omega (arith, a t (omega (arith, w .below)) (w .passes)))
       none a Missing p = refl
 
       by : (x : Slot) → closest (leafIn l) k 14 ≡ x → Holds (leafIn l) k best x → lowest (leafIn l .occ) 14 0 ≡ x
@@ -177,6 +185,7 @@ module _ (l : List ℕ) (k : ℕ) (bytes : Bytes l) (best : Best) (is : best ≡
             from = omega arith;
             below = omega (arith, a .below);
             passes = a .taken;
-            first = λ u c d. not-so (leafIn l .occ u) (λ o. absurd (omega (arith, f u d o (omega arith), key-furthest u, unheld t b p h .1)));
+            first = λ u c d. not-so (leafIn l .occ u)
+                (λ o. absurd (omega (arith, f u d o (omega arith), key-furthest u, unheld t b p h .1)));
           })
       by Missing p h = none (rw p at (answers (leafIn l) k 14)) (lowest (leafIn l .occ) 14 0) refl

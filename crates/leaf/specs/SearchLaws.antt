@@ -71,7 +71,8 @@ lowest-same f g (suc n) i h =
     rw (h i (omega arith) (omega arith), lowest-same f g n (suc i) (λ t a b. h t (omega arith) (omega arith)))
 
 -- the lowest vacant slot
-pub vacant-at : (occ : ℕ → Bool) (n s : ℕ) → lowestVacant occ n ≡ At s → (s < n) × (occ s ≡ false) × ((t : ℕ) → t < s → occ t ≡ true)
+pub vacant-at : (occ : ℕ → Bool) (n s : ℕ) → lowestVacant occ n ≡ At s → (s < n) × (occ s ≡ false) ×
+    ((t : ℕ) → t < s → occ t ≡ true)
 unfolding lowestVacant
 vacant-at occ n s e =
     let r = lowest-at (λ s. not (occ s)) n 0 s e in
@@ -140,7 +141,8 @@ Answers L k n Missing = (t : ℕ) → t < n → Taken L t → L .key t < k
 
 module _ (L : Leaf) (k : ℕ) where
   -- slot n does not count
-  passed : (n : ℕ) (best : Slot) → (Taken L n → k ≤ L .key n → nearer L n best ≡ false) → Answers L k n best → Answers L k (suc n) best
+  passed : (n : ℕ) (best : Slot) → (Taken L n → k ≤ L .key n → nearer L n best ≡ false) → Answers L k n best → Answers L k
+      (suc n) best
   passed n (At s) f a = record {
     below = omega (arith, a .below);
     taken = a .taken;

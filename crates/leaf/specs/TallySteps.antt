@@ -72,7 +72,8 @@ passed t = record {
 }
 
 pub noted-is : (last sought print key hit : ℕ) (t : Tally) (own wrong low reached most : ℕ) → own ≡ fingerprintOf key
-    → wrong ≡ cond (not (eqb print own)) 1 0 → low ≡ cond (leb key last) 1 0 → reached ≡ cond (leb key sought) 1 0 → most ≡ max (t .most) key
+    → wrong ≡ cond (not (eqb print own)) 1 0 → low ≡ cond (leb key last) 1 0 → reached ≡ cond (leb key sought) 1 0 → most ≡ max
+    (t .most) key
     → _≡_ {A = Tally} (record {
       entries = t .entries + 1;
       wrong = t .wrong + wrong;
@@ -135,7 +136,8 @@ module _ (L : Leaf) (last sought : ℕ) where
   }
 
   -- a slot whose fingerprint bore no stamp of this leaf has no twin below
-  unstamped : (s number : ℕ) (stamps : List ℕ) → Stamped L number s stamps → getD stamps (L .fp s) 0 ≢ number → someTo (shares L s) s ≡ false
+  unstamped : (s number : ℕ) (stamps : List ℕ) → Stamped L number s stamps → getD stamps (L .fp s) 0 ≢ number → someTo
+      (shares L s) s ≡ false
   unfolding shares
   unstamped s number stamps h ne = some-none (shares L s) s (λ t b. not-so (shares L s t) (λ e.
       let r = both-true (L .occ t) (both (eqb (L .fp t) (L .fp s)) (eqb (L .key t) (L .key s))) e in
@@ -145,7 +147,8 @@ module _ (L : Leaf) (last sought : ℕ) where
   module _ (s number : ℕ) (stamps : List ℕ) (t : Tally) (so-far : TellsTo L last sought s t) where
     -- an occupied slot is noted ..
     pub tells-taken : (print key hit : ℕ) (r : Tally) → Stamped L number s stamps → Taken L s → print ≡ L .fp s → key ≡ L .key s
-        → hit ≡ cond (eqb (getD stamps print 0) number) 1 0 → r ≡ noted last sought print key hit t → TellsTo L last sought (s + 1) r
+        → hit ≡ cond (eqb (getD stamps print 0) number) 1 0 → r ≡ noted last sought print key hit t → TellsTo L last sought
+        (s + 1) r
     unfolding countTo wrongAt atMost mostTo twinAt
     tells-taken print key hit r h o ep ek eh er = rw (er, ek, ep, add-one s) (record {
       entries = rw (so-far .entries, o);
@@ -175,7 +178,8 @@ module _ (L : Leaf) (last sought : ℕ) where
       reached = rw o (so-far .reached ∙ plus-0 (countTo (atMost L sought) s));
       most = rw o (so-far .most);
       few = omega (arith, so-far .few, pow-suc 2 s);
-      alone = subst (Hits L (suc s)) (sym (plus-0 (2 * t .hits))) (hits-next L s (t .hits) 0 (omega arith) (so-far .alone) (λ z. rw o refl));
+      alone = subst (Hits L (suc s)) (sym (plus-0 (2 * t .hits)))
+          (hits-next L s (t .hits) 0 (omega arith) (so-far .alone) (λ z. rw o refl));
     })
       where
         plus-0 : (n : ℕ) → n ≡ n + 0
@@ -191,7 +195,8 @@ stamped-taken L number s stamps r print h ep b er t c o = rw er (elim (ℕ-discr
   ]
 ])
 
-pub stamped-vacant : (L : Leaf) (number s : ℕ) (stamps : List ℕ) → Stamped L number s stamps → L .occ s ≡ false → Stamped L number (s + 1) stamps
+pub stamped-vacant : (L : Leaf) (number s : ℕ) (stamps : List ℕ) → Stamped L number s stamps → L .occ s ≡ false
+    → Stamped L number (s + 1) stamps
 stamped-vacant L number s stamps h v t c o =
     elim (ℕ-discrete t s) [ yes q ↦ differ (sym o ∙ ap (L .occ) q ∙ v) | no q ↦ h t (omega arith) o ]
 
@@ -199,17 +204,18 @@ stamped-vacant L number s stamps h v t c o =
 pub tells-whole : (l : List ℕ) (last sought s : ℕ) (t : Tally) → TellsTo (leafIn l) last sought s t → s ≡ 14
     → Tells (leafIn l) last sought t × Hits (leafIn l) 14 (t .hits)
 unfolding leafIn count twins
-tells-whole l last sought s t h e = let w : TellsTo (leafIn l) last sought 14 t = subst (λ (n : ℕ). TellsTo (leafIn l) last sought n t) e h in (
-  record {
-    entries = w .entries;
-    wrong = w .wrong;
-    low = w .low;
-    reached = w .reached;
-    most = w .most;
-    alone = λ z. hits-none (leafIn l) 14 (subst (Hits (leafIn l) 14) z (w .alone));
-  },
-  w .alone,
-)
+tells-whole l last sought s t h e = let w : TellsTo (leafIn l) last sought 14 t = subst
+    (λ (n : ℕ). TellsTo (leafIn l) last sought n t) e h in (
+      record {
+        entries = w .entries;
+        wrong = w .wrong;
+        low = w .low;
+        reached = w .reached;
+        most = w .most;
+        alone = λ z. hits-none (leafIn l) 14 (subst (Hits (leafIn l) 14) z (w .alone));
+      },
+      w .alone,
+    )
 
 -- ---- the search for twins
 

@@ -16,7 +16,12 @@ list-block-spec =
     tie.close
     (tie.spec (λ c. search needs) (λ c. search needs) (λ c. search needs) (λ c. search needs) (λ c. search needs)
     (λ c κs. let st = c .before .before .before .before .before .before in let a = st .args in (
-      omega (arith, length-take (256 * a .block + 256 - 256 * a .block) (drop (256 * a .block) (now (a .image))), length-drop (256 * a .block) (now (a .image))),
+      omega (
+        arith,
+        length-take (256 * a .block + 256 - 256 * a .block) (drop (256 * a .block) (now (a .image))),
+        length-drop
+            (256 * a .block) (now (a .image)),
+      ),
       subst Right (sym (part-leaf (now (a .image)) (a .block) (256 * a .block) (256 * a .block + 256) refl refl)) (st .pre .1),
       omega arith,
       omega arith,

@@ -18,7 +18,8 @@ use Rattle.index.proofs.listing.list_chain.Tie as tie
 
 abbrev Inv-loop : tie.InvT-loop
 Inv-loop image target from keys₀ values₀ room turns block₀ lo₀ n₀ i₀ keys values block lo n i =
-    (i ≤ turns) × (length keys ≡ length keys₀) × (length values ≡ length values₀) × Ahead (leaves image) turns i block (λ c. (c < turns) × Right (leaves image c))
+    (i ≤ turns) × (length keys ≡ length keys₀) × (length values ≡ length values₀) × Ahead (leaves image) turns i block
+    (λ c. (c < turns) × Right (leaves image c))
     × (fill room (listFrom (leaves image) lo (chainFrom (leaves image) (turns - i) block)) (buffers n keys values)
     ≡ fill room (listFrom (leaves image) from (chainFrom (leaves image) turns target)) (buffers 0 keys₀ values₀))
 
@@ -42,14 +43,19 @@ list-block-requires : tie.Need-list-block-requires Inv-loop μ-loop
 list-block-requires c κs =
     let k = c .before .before .before in
     let l = now (k .before .before .before .before .args .image) in
-    let here = ahead-here (leaves l) (blocks l) (k .loop .i) (k .loop .block) (λ c. (c < blocks l) × Right (leaves l c)) (omega arith) (k .loop .inv .3) in
+    let here = ahead-here (leaves l) (blocks l) (k .loop .i) (k .loop .block) (λ c. (c < blocks l) × Right (leaves l c))
+    (omega arith) (k .loop .inv .3) in
     (omega (arith, here .0), here .1, omega arith, omega arith)
 
 next-block-requires : tie.Need-next-block-requires Inv-loop μ-loop
 next-block-requires c κs =
     let k = c .before .before .before .before .before .before .before .before .before in
     let l = now (k .before .before .before .before .args .image) in
-    omega (arith, ahead-here (leaves l) (blocks l) (k .loop .i) (k .loop .block) (λ c. (c < blocks l) × Right (leaves l c)) (omega arith) (k .loop .inv .3) .0)
+    omega (
+      arith,
+      ahead-here (leaves l) (blocks l) (k .loop .i) (k .loop .block) (λ c. (c < blocks l) × Right (leaves l c))
+          (omega arith) (k .loop .inv .3) .0,
+    )
 
 returns : tie.Need-returns Inv-loop μ-loop
 returns c =
@@ -81,7 +87,8 @@ loop-again c =
       omega arith,
       search needs,
       search needs,
-      ahead-next (leaves l) (blocks l) (k .loop .i) (k .loop .block) (e .next-block .result) (λ c. (c < blocks l) × Right (leaves l c)) t (e .next-block .ensures) (c .if2 .left)
+      ahead-next (leaves l) (blocks l) (k .loop .i) (k .loop .block) (e .next-block .result)
+          (λ c. (c < blocks l) × Right (leaves l c)) t (e .next-block .ensures) (c .if2 .left)
           (k .loop .inv .3),
       chain-next (leaves l) (blocks l) (a .room) (k .loop .i) (k .loop .block) (k .loop .lo) _ _ (k .loop .inv .4) t _
           (d .list-block .ensures) (e .next-block .result) (e .next-block .ensures) (c .if2 .left),

@@ -14,8 +14,15 @@ list-slots-requires c κs =
     let o = c .before .before .before .before in
     let st = o .before .before .before .before .before in
     let a = st .args in
-    let e = o .order-from .ensures in
-    (omega arith, omega arith, omega arith, e .0, e .2, order-inside (now (a .leaf)) (st .pre .1) (a .from) (o .order-from .result) _ (e .0) (e .1) (e .3))
+    let e = o .order-from .ensures in (
+      omega arith,
+      omega arith,
+      omega arith,
+      e .0,
+      e .2,
+      order-inside (now (a .leaf)) (st .pre .1) (a .from)
+          (o .order-from .result) _ (e .0) (e .1) (e .3),
+    )
 
 returns : tie.Need-returns
 returns c =
@@ -31,4 +38,5 @@ returns c =
 pub list-leaf-spec : {M : Type 1} → statement M
 list-leaf-spec =
     tie.close
-    (tie.spec (λ c. search needs) (λ c κs. search needs) (λ c. search needs) list-slots-requires (λ c. search needs) (λ c. search needs) returns)
+    (tie.spec (λ c. search needs) (λ c κs. search needs) (λ c. search needs) list-slots-requires (λ c. search needs)
+    (λ c. search needs) returns)

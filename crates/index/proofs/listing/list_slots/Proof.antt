@@ -29,7 +29,8 @@ returns : tie.Need-returns Inv-loop μ-loop
 returns c =
     let k = c .before .before in
     let a = k .before .before .before .before .before .args in
-    slots-full (leafIn (now (a .leaf))) (a .room) (k .loop .i) (k .loop .n) (take (a .count) (now (a .order))) (k .loop .keys) (k .loop .values) _
+    slots-full (leafIn (now (a .leaf))) (a .room) (k .loop .i) (k .loop .n) (take (a .count) (now (a .order))) (k .loop .keys)
+    (k .loop .values) _
     (k .loop .inv .3) (c .if1 .taken)
 
 key-at-requires : tie.Need-key-at-requires Inv-loop μ-loop
@@ -57,7 +58,8 @@ loop-again c =
       omega arith,
       length-set (k .loop .keys) (k .loop .n) (y .key-at .result) ∙ k .loop .inv .1,
       length-set (k .loop .values) (k .loop .n) (v .value-at .result) ∙ k .loop .inv .2,
-      slots-next L (a .room) (k .loop .i) (k .loop .n) ss (k .loop .keys) (k .loop .values) _ (k .loop .inv .3) _ (y .key-at .result) (v .value-at .result)
+      slots-next L (a .room) (k .loop .i) (k .loop .n) ss (k .loop .keys) (k .loop .values) _ (k .loop .inv .3) _
+          (y .key-at .result) (v .value-at .result)
           (omega (arith, first-length (now (a .order)) (a .count) (omega arith)))
           (omega arith)
           (sym (getD-take (a .count) (now (a .order)) (k .loop .i) 0 (omega arith)))
@@ -69,7 +71,8 @@ returns-2 : tie.Need-returns-2 Inv-loop μ-loop
 returns-2 c =
     let k = c .before in
     let a = k .before .before .before .before .before .args in
-    slots-end (leafIn (now (a .leaf))) (a .room) (k .loop .i) (k .loop .n) (take (a .count) (now (a .order))) (k .loop .keys) (k .loop .values) _
+    slots-end (leafIn (now (a .leaf))) (a .room) (k .loop .i) (k .loop .n) (take (a .count) (now (a .order))) (k .loop .keys)
+    (k .loop .values) _
     (k .loop .inv .3) (omega (arith, first-length (now (a .order)) (a .count) (omega arith)))
 
 pub list-slots-spec : {M : Type 1} → statement M

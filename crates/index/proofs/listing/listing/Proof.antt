@@ -53,9 +53,12 @@ listing-spec =
     tie.close
     (tie.spec (λ c κs. search needs)
     (λ c. let a = c .before .before .before .before .before .args in
-    listing-bad (now (a .image)) (a .from) (now (a .keys)) (now (a .values)) (sym (c .before .bad-image .ensures) ∙ c .if1 .taken))
-    (λ c κs. long-enough (now (c .before .before .before .before .before .args .image)) (sym (c .before .bad-image .ensures) ∙ c .if1 .left))
+    listing-bad (now (a .image)) (a .from) (now (a .keys)) (now (a .values))
+    (sym (c .before .bad-image .ensures) ∙ c .if1 .taken))
+    (λ c κs. long-enough (now (c .before .before .before .before .before .args .image))
+    (sym (c .before .bad-image .ensures) ∙ c .if1 .left))
     (λ c. let s = c .before .before in let b = s .before .before in let a = b .before .before .before .before .args in
-    listing-unsound (now (a .image)) (a .from) (now (a .keys)) (now (a .values)) (sym (b .bad-image .ensures) ∙ s .before .if1 .left)
+    listing-unsound (now (a .image)) (a .from) (now (a .keys)) (now (a .values))
+    (sym (b .bad-image .ensures) ∙ s .before .if1 .left)
     (λ e. c .if2 .taken (ap (λ (st : State). st .stage) (s .survey .ensures) ∙ e)))
     (λ c κs. search needs) list-chain-requires (λ c. search needs) (λ c. search needs) returns-3)

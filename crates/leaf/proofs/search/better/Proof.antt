@@ -19,7 +19,8 @@ returns c =
     c .nearer .ensures
     ∙ ap (λ (e : ℕ). nearerOf e (a .s) (a .best))
     (x .excess-of .ensures
-    ∙ ap₂ (λ (t : Bool) (key : ℕ). excessBy t key (a .k)) (o .occupied .ensures ∙ in-occ _ _ (st .pre .2) _ (omega arith)) (y .key-at .ensures))
+    ∙ ap₂ (λ (t : Bool) (key : ℕ). excessBy t key (a .k)) (o .occupied .ensures ∙ in-occ _ _ (st .pre .2) _ (omega arith))
+    (y .key-at .ensures))
 
 pub better-spec : {M : Type 1} → statement M
 better-spec =

@@ -10,7 +10,8 @@ least-from-spec =
     tie.close
     (tie.spec (λ c κs. search needs) (λ c κs. search needs)
     (λ c. let n = c .before .before in let g = n .before .before in let a = g .before .args in
-    nearest-found (now (a .leaf)) (a .k) (λ i. omega (arith, g .shared-slice-known .given i)) _ (n .nearest .ensures) (omega arith))
+    nearest-found (now (a .leaf)) (a .k) (λ i. omega (arith, g .shared-slice-known .given i)) _ (n .nearest .ensures)
+    (omega arith))
     (λ c κs. search needs)
     (λ c. let n = c .before .before .before .before in let h = n .before in let g = h .before in let a = g .before .args in
     nearest-last (now (a .leaf)) (a .k) (λ i. omega (arith, g .shared-slice-known .given i)) _ (n .nearest .ensures) (omega arith)

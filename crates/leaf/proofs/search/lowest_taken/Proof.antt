@@ -22,13 +22,16 @@ lowest-taken-spec =
     tie.close
     (tie.spec Inv-loop μ-loop (λ c. (omega arith, refl)) (λ c κs. search needs)
     (λ c. let k = c .before .before .before in let h = bitsOf (k .before .args .head) in
-    sym (lowest-found (occIn h) 14 (k .loop .s) (omega arith) (occ-in h (k .loop .s) (omega arith) ∙ sym (c .before .occupied .ensures) ∙ c .if1 .taken))
+    sym (lowest-found (occIn h) 14 (k .loop .s) (omega arith)
+    (occ-in h (k .loop .s) (omega arith) ∙ sym (c .before .occupied .ensures) ∙ c .if1 .taken))
     ∙ k .loop .inv .1)
     (λ c. omega arith)
     (λ c. omega arith)
     (λ c. let k = c .before .before .before in let h = bitsOf (k .before .args .head) in (
       omega arith,
-      sym (lowest-passed (occIn h) 14 (k .loop .s) (omega arith) (occ-in h (k .loop .s) (omega arith) ∙ sym (c .before .occupied .ensures) ∙ c .if1 .left))
+      sym (lowest-passed (occIn h) 14 (k .loop .s) (omega arith)
+          (occ-in h (k .loop .s) (omega arith) ∙ sym (c .before .occupied .ensures) ∙ c .if1 .left))
           ∙ k .loop .inv .1,
     ))
-    (λ c. let k = c .before in sym (lowest-end (occIn (bitsOf (k .before .args .head))) 14 (k .loop .s) (omega arith)) ∙ k .loop .inv .1))
+    (λ c. let k = c .before in sym (lowest-end (occIn (bitsOf (k .before .args .head))) 14 (k .loop .s) (omega arith))
+    ∙ k .loop .inv .1))

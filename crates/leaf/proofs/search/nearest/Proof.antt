@@ -25,7 +25,10 @@ nearest-spec =
     (λ c κs. let st = c .before .before .before in (omega arith, omega arith, st .pre .1))
     (λ c. omega arith)
     (λ c. omega arith)
-    (λ c. let k = c .before .before in let a = k .before .before .args in
-    (omega arith, nearest-step (leafIn (now (a .leaf))) (a .k) (k .loop .s) (k .loop .best) _ (k .loop .inv .1) (c .better .ensures)))
+    (λ c. let k = c .before .before in let a = k .before .before .args in (
+      omega arith,
+      nearest-step (leafIn (now (a .leaf))) (a .k) (k .loop .s) (k .loop .best) _ (k .loop .inv .1)
+          (c .better .ensures),
+    ))
     (λ c. let k = c .before in let a = k .before .before .args in
     let e : k .loop .s ≡ 14 = omega arith in k .loop .inv .1 ∙ ap (nearestTo (leafIn (now (a .leaf))) (a .k)) e))

@@ -50,7 +50,8 @@ returns-2 c =
     let st = o .before .before .before in
     let a = st .args in
     let v = sym (o .occupied .ensures ∙ in-occ _ _ (st .pre .2) _ (omega arith)) ∙ c .before .if1 .left in (
-      tells-vacant (leafIn (now (a .leaf))) (a .last) (a .sought) (a .s) (a .number) (now (a .stamps)) (a .t) (st .pre .4) _ v (c .pass-over .ensures),
+      tells-vacant (leafIn (now (a .leaf))) (a .last) (a .sought) (a .s) (a .number) (now (a .stamps)) (a .t) (st .pre .4) _ v
+          (c .pass-over .ensures),
       stamped-vacant (leafIn (now (a .leaf))) (a .number) (a .s) (now (a .stamps)) (st .pre .5) v,
       refl,
     )
