@@ -1,7 +1,7 @@
 -- What one pass over a leaf's slots tells.
 use mathlib.Core.Path.{_≡_}
 use mathlib.Core.Bool.{Bool, true, false, cond, not}
-use Prim.Native.Nat.{ℕ, zero, suc, max}
+use Prim.Native.Nat.{ℕ, zero, suc, min, max}
 use lib.Dec.{leb, eqb}
 use Rattle.words.specs.Bools.{both}
 use Rattle.header.specs.Header.{fingerprintOf}
@@ -16,6 +16,11 @@ wrongAt L s = both (L .occ s) (not (eqb (L .fp s) (fingerprintOf (L .key s))))
 -- the key of slot s is at most x
 unfoldable pub atMost : Leaf → ℕ → ℕ → Bool
 atMost L x s = both (L .occ s) (leb (L .key s) x)
+
+-- the smallest key of the first n slots, the largest word where none is occupied
+unfoldable pub leastTo : Leaf → ℕ → ℕ
+leastTo L zero = 18446744073709551615
+leastTo L (suc n) = cond (L .occ n) (min (leastTo L n) (L .key n)) (leastTo L n)
 
 -- the largest key of the first n slots, 0 where none is occupied
 unfoldable pub mostTo : Leaf → ℕ → ℕ
@@ -37,12 +42,10 @@ twinAt L s = both (L .occ s) (someTo (shares L s) s)
 unfoldable pub twins : Leaf → Bool
 twins L = someTo (twinAt L) (L .size)
 
--- The pass is told the largest key of the earlier leaves and the key sought.
-pub record Tells (L : Leaf) (last sought : ℕ) (t : Tally) : Type 0 where
+pub record Tells (L : Leaf) (t : Tally) : Type 0 where
   pub entries : t .entries ≡ count L
   pub wrong : t .wrong ≡ countTo (wrongAt L) (L .size)
-  pub low : t .low ≡ countTo (atMost L last) (L .size)
-  pub reached : t .reached ≡ countTo (atMost L sought) (L .size)
+  pub least : t .least ≡ leastTo L (L .size)
   pub most : t .most ≡ mostTo L (L .size)
   -- no fingerprint came twice, so no key did
   pub alone : t .hits ≡ 0 → twins L ≡ false

@@ -2,17 +2,17 @@
 use mathlib.Core.Path.{_≡_, refl, sym, ap, _∙_}
 use mathlib.Core.Bool.{true, false, cond, not}
 use mathlib.Core.Logic.{_⊎_, inl, inr}
-use Prim.Native.Nat.{ℕ, zero, suc, _≤_, _<_, max}
+use Prim.Native.Nat.{ℕ, zero, suc, _+_, _≤_, _<_, min, max}
 use native.Mathlib.Decide.{ℕ-discrete, decLt}
 use native.Mathlib.Omega.{arith}
-use borrow.Author.Tests.{eq-eqb, eqb-true, leb-true, leb-false, lt-leb, not-false}
+use borrow.Author.Tests.{eq-eqb, ne-eqb, eqb-true, leb-true, leb-false, le-leb, lt-leb, not-false}
 use lib.Dec.{leb, eqb}
 use Rattle.words.specs.Bools.{both, both-true, by-test, differ, not-so}
 use Rattle.header.specs.Header.{fingerprintOf}
 use Rattle.leaf.specs.Leaf.{Leaf, Taken, Right}
 use Rattle.leaf.specs.Search.{countTo}
 use Rattle.leaf.specs.SearchLaws.{count-none, count-zero, count-some}
-use Rattle.leaf.specs.Tally.{wrongAt, atMost, mostTo, someTo, shares, twinAt, twins}
+use Rattle.leaf.specs.Tally.{wrongAt, atMost, leastTo, mostTo, someTo, shares, twinAt, twins}
 use Rattle.leaf.specs.TallySteps.{some-none, none-some, some-yes}
 
 module _ (L : Leaf) (inside : (s : ℕ) → Taken L s → s < L .size) where
@@ -114,3 +114,65 @@ module _ (L : Leaf) where
   -- it is the key of an occupied slot, where there is one
   pub most-is : (n s : ℕ) → s < n → Taken L s → (t : ℕ) × (t < n) × Taken L t × (L .key t ≡ mostTo L n)
   most-is n s b o = elim (most-or n) [ inl z ↦ (s, b, o, omega (arith, most-above n s b o)) | inr f ↦ f ]
+
+-- ---- the smallest key
+
+plus-0 : (n : ℕ) → n + 0 ≡ n
+plus-0 n = omega arith
+
+least-none : (L : Leaf) (n : ℕ) → countTo (L .occ) n ≡ 0 → leastTo L n ≡ 18446744073709551615
+unfolding countTo leastTo
+least-none L zero e = refl
+least-none L (suc n) e = by-test
+    (λ o. countTo (L .occ) n + cond o 1 0 ≡ 0 → cond o (min (leastTo L n) (L .key n)) (leastTo L n) ≡ 18446744073709551615)
+    (L .occ n)
+    (λ o z. absurd (omega arith))
+    (λ o z. least-none L n (omega arith))
+    e
+
+-- some key is at most x exactly when there is a smallest one and it is
+pub least-reaches : (L : Leaf) (n x : ℕ) → ((s : ℕ) → L .key s ≤ 18446744073709551615)
+    → both (not (eqb (countTo (L .occ) n) 0)) (leb (leastTo L n) x) ≡ not (eqb (countTo (atMost L x) n) 0)
+unfolding countTo leastTo atMost
+least-reaches L zero x b = refl
+least-reaches L (suc n) x b = by-test
+    (λ o. both (not (eqb (all + cond o 1 0) 0)) (leb (cond o (min least key) least) x) ≡ not
+    (eqb (low + cond (both o (leb key x)) 1 0) 0))
+    (L .occ n)
+    (λ o. by-test
+    (λ y. leb key x ≡ y → both (not (eqb (all + 1) 0)) (leb (min least key) x) ≡ not (eqb (low + cond y 1 0) 0))
+    (leb key x)
+    (λ d q. rw (
+      ne-eqb (all + 1) 0 (λ z. omega arith),
+      le-leb (min least key) x (omega (arith, leb-true key x q)),
+      ne-eqb
+          (low + 1) 0 (λ z. omega arith),
+    ))
+    (λ d q. rw (ne-eqb (all + 1) 0 (λ z. omega arith), plus-0 low)
+    (other (leb-false key x q) ∙ some (leb-false key x q) ∙ least-reaches L n x b))
+    refl)
+    (λ o. rw (plus-0 all, plus-0 low) (least-reaches L n x b))
+  where
+    all : ℕ
+    all = countTo (L .occ) n
+
+    low : ℕ
+    low = countTo (atMost L x) n
+
+    least : ℕ
+    least = leastTo L n
+
+    key : ℕ
+    key = L .key n
+
+    other : x < key → leb (min least key) x ≡ leb least x
+    other g = by-test (λ y. leb least x ≡ y → leb (min least key) x ≡ y) (leb least x)
+        (λ d q. le-leb (min least key) x (omega (arith, leb-true least x q)))
+        (λ d q. lt-leb (min least key) x (omega (arith, leb-false least x q)))
+        refl
+
+    some : x < key → leb least x ≡ both (not (eqb all 0)) (leb least x)
+    some g = by-test (λ y. eqb all 0 ≡ y → leb least x ≡ both (not y) (leb least x)) (eqb all 0)
+        (λ d q. lt-leb least x (omega (arith, least-none L n (eqb-true all 0 q), b n)))
+        (λ d q. refl)
+        refl

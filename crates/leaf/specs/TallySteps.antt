@@ -3,13 +3,13 @@ use mathlib.Core.Path.{_≡_, refl, sym, ap, subst, _∙_}
 use mathlib.Core.Bool.{Bool, true, false, cond, not}
 use mathlib.Core.List.{List}
 use mathlib.Core.Logic.{_≢_}
-use Prim.Native.Nat.{ℕ, zero, suc, _+_, _*_, _/_, _%_, _^_, _≤_, _<_, max}
+use Prim.Native.Nat.{ℕ, zero, suc, _+_, _*_, _/_, _%_, _^_, _≤_, _<_, min, max}
 use native.Mathlib.Decide.{ℕ-discrete}
 use native.Mathlib.Nat.{pow-suc}
 use native.Mathlib.Numerals.{add-one}
 use native.Mathlib.Omega.{arith}
 use borrow.Author.Tests.{eq-eqb, ne-eqb, eqb-true}
-use lib.Dec.{leb, eqb}
+use lib.Dec.{eqb}
 use lib.ListN.{length, getD, set}
 use lib.Pow.{pow-mono}
 use lib.Seq.{getD-set-same, getD-set-other}
@@ -18,7 +18,7 @@ use Rattle.header.specs.Header.{fingerprintOf}
 use Rattle.leaf.specs.Leaf.{Leaf, Taken, leafIn}
 use Rattle.leaf.specs.Search.{countTo, count}
 use Rattle.leaf.specs.SearchLaws.{count-most}
-use Rattle.leaf.specs.Tally.{wrongAt, atMost, mostTo, someTo, shares, twinAt, twins, Tells}
+use Rattle.leaf.specs.Tally.{wrongAt, leastTo, mostTo, someTo, shares, twinAt, twins, Tells}
 use Rattle.leaf.specs.declared.tally.Tally.{Tally}
 
 -- ---- some of the first n passes a test
@@ -50,12 +50,11 @@ module _ (f : ℕ → Bool) where
 -- ---- the pass
 
 -- the tally with one more occupied slot, of that fingerprint and key
-abbrev pub noted : (last sought print key hit : ℕ) → Tally → Tally
-noted last sought print key hit t = record {
+abbrev pub noted : (print key hit : ℕ) → Tally → Tally
+noted print key hit t = record {
   entries = t .entries + 1;
   wrong = t .wrong + cond (not (eqb print (fingerprintOf key))) 1 0;
-  low = t .low + cond (leb key last) 1 0;
-  reached = t .reached + cond (leb key sought) 1 0;
+  least = min (t .least) key;
   most = max (t .most) key;
   hits = 2 * t .hits + hit;
 }
@@ -65,31 +64,27 @@ abbrev pub passed : Tally → Tally
 passed t = record {
   entries = t .entries;
   wrong = t .wrong;
-  low = t .low;
-  reached = t .reached;
+  least = t .least;
   most = t .most;
   hits = 2 * t .hits;
 }
 
-pub noted-is : (last sought print key hit : ℕ) (t : Tally) (own wrong low reached most : ℕ) → own ≡ fingerprintOf key
-    → wrong ≡ cond (not (eqb print own)) 1 0 → low ≡ cond (leb key last) 1 0 → reached ≡ cond (leb key sought) 1 0 → most ≡ max
+pub noted-is : (print key hit : ℕ) (t : Tally) (own wrong least most : ℕ) → own ≡ fingerprintOf key
+    → wrong ≡ cond (not (eqb print own)) 1 0 → least ≡ min (t .least) key → most ≡ max
     (t .most) key
     → _≡_ {A = Tally} (record {
       entries = t .entries + 1;
       wrong = t .wrong + wrong;
-      low = t .low + low;
-      reached = t .reached + reached;
+      least = least;
       most = most;
       hits = 2 * t .hits + hit;
-    }) (noted last sought print key hit t)
-noted-is last sought print key hit t own wrong low reached most eo ew el er em = rw (ew, el, er, em, eo)
+    }) (noted print key hit t)
+noted-is print key hit t own wrong least most eo ew el em = rw (ew, el, em, eo)
 
 -- its counts are those of so few slots that they can grow
 pub record Few (t : Tally) : Type 0 where
   pub entries : t .entries < 14
   pub wrong : t .wrong < 14
-  pub low : t .low < 14
-  pub reached : t .reached < 14
   pub hits : t .hits < 16384
 
 -- of the first n slots, the last one's bit lowest: a slot whose bit is 0 has no twin below
@@ -108,11 +103,10 @@ hits-next L n h b most so-far lone =
     (λ z. lone (omega arith), subst (Hits L n) (sym q) so-far)
 
 -- what the tally tells of the first n slots
-pub record TellsTo (L : Leaf) (last sought n : ℕ) (t : Tally) : Type 0 where
+pub record TellsTo (L : Leaf) (n : ℕ) (t : Tally) : Type 0 where
   pub entries : t .entries ≡ countTo (L .occ) n
   pub wrong : t .wrong ≡ countTo (wrongAt L) n
-  pub low : t .low ≡ countTo (atMost L last) n
-  pub reached : t .reached ≡ countTo (atMost L sought) n
+  pub least : t .least ≡ leastTo L n
   pub most : t .most ≡ mostTo L n
   pub few : t .hits < 2 ^ n
   pub alone : Hits L n (t .hits)
@@ -121,17 +115,15 @@ pub record TellsTo (L : Leaf) (last sought n : ℕ) (t : Tally) : Type 0 where
 abbrev pub Stamped : Leaf → ℕ → ℕ → List ℕ → Type 0
 Stamped L number n stamps = (t : ℕ) → t < n → Taken L t → getD stamps (L .fp t) 0 ≡ number
 
-module _ (L : Leaf) (last sought : ℕ) where
-  pub tells-none : TellsTo L last sought 0 (record { entries = 0; wrong = 0; low = 0; reached = 0; most = 0; hits = 0 })
-  unfolding countTo mostTo someTo
-  tells-none = record { entries = refl; wrong = refl; low = refl; reached = refl; most = refl; few = omega arith; alone = tt }
+module _ (L : Leaf) where
+  pub tells-none : TellsTo L 0 (record { entries = 0; wrong = 0; least = 18446744073709551615; most = 0; hits = 0 })
+  unfolding countTo leastTo mostTo someTo
+  tells-none = record { entries = refl; wrong = refl; least = refl; most = refl; few = omega arith; alone = tt }
 
-  pub tells-few : (s : ℕ) (t : Tally) → s < 14 → TellsTo L last sought s t → Few t
+  pub tells-few : (s : ℕ) (t : Tally) → s < 14 → TellsTo L s t → Few t
   tells-few s t b h = record {
     entries = omega (arith, h .entries, count-most (L .occ) s);
     wrong = omega (arith, h .wrong, count-most (wrongAt L) s);
-    low = omega (arith, h .low, count-most (atMost L last) s);
-    reached = omega (arith, h .reached, count-most (atMost L sought) s);
     hits = omega (arith, h .few, pow-mono {i = s} {j = 14} (omega arith));
   }
 
@@ -144,17 +136,16 @@ module _ (L : Leaf) (last sought : ℕ) where
       let q = both-true (eqb (L .fp t) (L .fp s)) (eqb (L .key t) (L .key s)) (r .1) in
       ne (ap (λ (p : ℕ). getD stamps p 0) (sym (eqb-true (L .fp t) (L .fp s) (q .0))) ∙ h t b (r .0))))
 
-  module _ (s number : ℕ) (stamps : List ℕ) (t : Tally) (so-far : TellsTo L last sought s t) where
+  module _ (s number : ℕ) (stamps : List ℕ) (t : Tally) (so-far : TellsTo L s t) where
     -- an occupied slot is noted ..
     pub tells-taken : (print key hit : ℕ) (r : Tally) → Stamped L number s stamps → Taken L s → print ≡ L .fp s → key ≡ L .key s
-        → hit ≡ cond (eqb (getD stamps print 0) number) 1 0 → r ≡ noted last sought print key hit t → TellsTo L last sought
+        → hit ≡ cond (eqb (getD stamps print 0) number) 1 0 → r ≡ noted print key hit t → TellsTo L
         (s + 1) r
-    unfolding countTo wrongAt atMost mostTo twinAt
+    unfolding countTo wrongAt leastTo mostTo twinAt
     tells-taken print key hit r h o ep ek eh er = rw (er, ek, ep, add-one s) (record {
       entries = rw (so-far .entries, o);
       wrong = rw (so-far .wrong, o);
-      low = rw (so-far .low, o);
-      reached = rw (so-far .reached, o);
+      least = rw (so-far .least, o);
       most = rw (so-far .most, o);
       few = omega (arith, so-far .few, hit-most, pow-suc 2 s);
       alone = hits-next L s (t .hits) hit hit-most (so-far .alone) lone;
@@ -169,13 +160,12 @@ module _ (L : Leaf) (last sought : ℕ) where
             omega arith))
 
     -- .. and a vacant one passed over
-    pub tells-vacant : (r : Tally) → L .occ s ≡ false → r ≡ passed t → TellsTo L last sought (s + 1) r
-    unfolding countTo wrongAt atMost mostTo twinAt
+    pub tells-vacant : (r : Tally) → L .occ s ≡ false → r ≡ passed t → TellsTo L (s + 1) r
+    unfolding countTo wrongAt leastTo mostTo twinAt
     tells-vacant r o er = rw (er, add-one s) (record {
       entries = rw o (so-far .entries ∙ plus-0 (countTo (L .occ) s));
       wrong = rw o (so-far .wrong ∙ plus-0 (countTo (wrongAt L) s));
-      low = rw o (so-far .low ∙ plus-0 (countTo (atMost L last) s));
-      reached = rw o (so-far .reached ∙ plus-0 (countTo (atMost L sought) s));
+      least = rw o (so-far .least);
       most = rw o (so-far .most);
       few = omega (arith, so-far .few, pow-suc 2 s);
       alone = subst (Hits L (suc s)) (sym (plus-0 (2 * t .hits)))
@@ -201,16 +191,15 @@ stamped-vacant L number s stamps h v t c o =
     elim (ℕ-discrete t s) [ yes q ↦ differ (sym o ∙ ap (L .occ) q ∙ v) | no q ↦ h t (omega arith) o ]
 
 -- the whole pass, over the 14 slots
-pub tells-whole : (l : List ℕ) (last sought s : ℕ) (t : Tally) → TellsTo (leafIn l) last sought s t → s ≡ 14
-    → Tells (leafIn l) last sought t × Hits (leafIn l) 14 (t .hits)
+pub tells-whole : (l : List ℕ) (s : ℕ) (t : Tally) → TellsTo (leafIn l) s t → s ≡ 14
+    → Tells (leafIn l) t × Hits (leafIn l) 14 (t .hits)
 unfolding leafIn count twins
-tells-whole l last sought s t h e = let w : TellsTo (leafIn l) last sought 14 t = subst
-    (λ (n : ℕ). TellsTo (leafIn l) last sought n t) e h in (
+tells-whole l s t h e = let w : TellsTo (leafIn l) 14 t = subst
+    (λ (n : ℕ). TellsTo (leafIn l) n t) e h in (
       record {
         entries = w .entries;
         wrong = w .wrong;
-        low = w .low;
-        reached = w .reached;
+        least = w .least;
         most = w .most;
         alone = λ z. hits-none (leafIn l) 14 (subst (Hits (leafIn l) 14) z (w .alone));
       },

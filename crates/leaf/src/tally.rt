@@ -6,7 +6,7 @@ use header::Header;
 use header::fingerprint_of;
 ghost use mathlib.Core.Path.{_≡_};
 ghost use mathlib.Core.Bool.{false, cond};
-ghost use Prim.Native.Nat.{_+_, _%_, _≤_, _<_, max};
+ghost use Prim.Native.Nat.{_+_, _%_, _≤_, _<_, min, max};
 ghost use lib.Dec.{eqb};
 ghost use lib.ListN.{length, getD, set};
 ghost use Rattle.header.specs.Header.{headAt, bitsOf};
@@ -14,13 +14,12 @@ ghost use Rattle.leaf.specs.Leaf.{leafIn};
 ghost use Rattle.leaf.specs.Tally.{Tells, shares, twinAt, twins};
 ghost use Rattle.leaf.specs.TallySteps.{noted, passed, Few, Hits, TellsTo, Stamped};
 
-// How many slots are occupied, have a wrong fingerprint, a key at most the last of the earlier leaves, a key at most the one
-// sought; the largest key; and of each slot a bit, whether its fingerprint had come before, that of the last slot lowest.
+// How many slots are occupied, and have a wrong fingerprint; the smallest key and the largest; and of each slot a bit, whether its
+// fingerprint had come before, that of the last slot lowest.
 pub struct Tally {
     pub entries: u64,
     pub wrong: u64,
-    pub low: u64,
-    pub reached: u64,
+    pub least: u64,
     pub most: u64,
     pub hits: u64,
 }
@@ -29,6 +28,12 @@ fn one_if(b: bool) -> u64
     ensures { λ r. ⌜ (r ≡ cond b 1 0) × (r ≤ 1) ⌝ }
 {
     if b { 1 } else { 0 }
+}
+
+fn smaller(a: u64, b: u64) -> u64
+    ensures { λ r. ⌜ r ≡ min a b ⌝ }
+{
+    if a < b { a } else { b }
 }
 
 fn larger(a: u64, b: u64) -> u64
@@ -57,16 +62,15 @@ fn stamp(stamps: &mut [u8], print: u8, number: u8) -> u64
 }
 
 // The tally with one more occupied slot.
-fn note(t: Tally, last: u64, sought: u64, print: u8, key: u64, hit: u64) -> Tally
+fn note(t: Tally, print: u8, key: u64, hit: u64) -> Tally
     requires { ⌜ (Few t) × (hit ≤ 1) ⌝ }
-    ensures { λ r. ⌜ r ≡ noted last sought print key hit t ⌝ }
+    ensures { λ r. ⌜ r ≡ noted print key hit t ⌝ }
 {
     let g = fingerprint_of(key);
     Tally {
         entries: t.entries + 1,
         wrong: t.wrong + one_if(print != g),
-        low: t.low + one_if(key <= last),
-        reached: t.reached + one_if(key <= sought),
+        least: smaller(t.least, key),
         most: larger(t.most, key),
         hits: 2 * t.hits + hit,
     }
@@ -83,19 +87,10 @@ fn pass_over(t: Tally) -> Tally
 }
 
 // One turn of the pass.
-fn slot(
-    leaf: &[u8],
-    head: Header,
-    last: u64,
-    sought: u64,
-    s: usize,
-    stamps: &mut [u8],
-    number: u8,
-    t: Tally,
-) -> Tally
+fn slot(leaf: &[u8], head: Header, s: usize, stamps: &mut [u8], number: u8, t: Tally) -> Tally
     requires { ⌜ (256 ≤ length (now leaf)) × (s < 14) × (bitsOf head ≡ headAt (now leaf) 0) × (256 ≤ length (now stamps))
-        × TellsTo (leafIn (now leaf)) last sought s t × Stamped (leafIn (now leaf)) number s (now stamps) ⌝ }
-    ensures { λ r. ⌜ TellsTo (leafIn (now (leaf .entry))) last sought (s + 1) r
+        × TellsTo (leafIn (now leaf)) s t × Stamped (leafIn (now leaf)) number s (now stamps) ⌝ }
+    ensures { λ r. ⌜ TellsTo (leafIn (now (leaf .entry))) (s + 1) r
         × Stamped (leafIn (now (leaf .entry))) number (s + 1) (now (stamps .exit))
         × (length (now (stamps .exit)) ≡ length (now (stamps .entry))) ⌝ }
 {
@@ -103,35 +98,27 @@ fn slot(
         let key = key_at(leaf, s);
         let print = print_at(leaf, s);
         let hit = stamp(stamps, print, number);
-        return note(t, last, sought, print, key, hit);
+        return note(t, print, key, hit);
     }
     pass_over(t)
 }
 
 // The whole pass. The stamps may hold anything: a stamp of an earlier leaf with this number costs a comparison, and no more.
-pub fn tally_of(
-    leaf: &[u8],
-    head: Header,
-    last: u64,
-    sought: u64,
-    stamps: &mut [u8],
-    number: u8,
-) -> Tally
+pub fn tally_of(leaf: &[u8], head: Header, stamps: &mut [u8], number: u8) -> Tally
     requires { ⌜ (256 ≤ length (now leaf)) × (bitsOf head ≡ headAt (now leaf) 0) × (256 ≤ length (now stamps)) ⌝ }
-    ensures { λ r. ⌜ Tells (leafIn (now (leaf .entry))) last sought r × Hits (leafIn (now (leaf .entry))) 14 (r .hits)
+    ensures { λ r. ⌜ Tells (leafIn (now (leaf .entry))) r × Hits (leafIn (now (leaf .entry))) 14 (r .hits)
         × (length (now (stamps .exit)) ≡ length (now (stamps .entry))) ⌝ }
 {
     let mut t = Tally {
         entries: 0,
         wrong: 0,
-        low: 0,
-        reached: 0,
+        least: 18446744073709551615,
         most: 0,
         hits: 0,
     };
     let mut s = 0;
     while s < Leaf::SLOTS {
-        t = slot(leaf, head, last, sought, s, stamps, number, t);
+        t = slot(leaf, head, s, stamps, number, t);
         s += 1;
     }
     t

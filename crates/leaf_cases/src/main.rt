@@ -50,7 +50,7 @@ fn tell_leaf(leaf: &[u8])
 {
     let head = Header::read(leaf, 0);
     let mut stamps = [0u8; 256];
-    let t = tally_of(leaf, head, 0, 0, &mut stamps, 1);
+    let t = tally_of(leaf, head, &mut stamps, 1);
     tell(entries(head));
     tell(smallest_key(leaf));
     tell(number_of(lowest_vacant(head)));

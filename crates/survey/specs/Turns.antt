@@ -6,22 +6,24 @@ use Prim.Native.Nat.{ℕ, zero, suc, _+_, _-_, _*_, _≤_, _<_}
 use native.Mathlib.Omega.{arith}
 use borrow.Author.Tests.{eq-eqb, ne-eqb, eqb-true, leb-false}
 use lib.Dec.{leb, eqb}
-use Rattle.words.specs.Bools.{by-test}
+use Rattle.words.specs.Update.{upd}
+use Rattle.words.specs.Bools.{both, by-test}
 use Rattle.header.specs.Header.{isLocked}
 use Rattle.leaf.specs.Leaf.{Leaf, leafIn, view}
 use Rattle.leaf.specs.Search.{count, countTo}
 use Rattle.leaf.specs.SearchLaws.{count-most}
+use Rattle.leaf.specs.TallyLaws.{least-reaches}
 use Rattle.leaf.specs.Tally.{Tells, wrongAt, atMost, mostTo, twins}
 use Rattle.leaf.specs.declared.tally.Tally.{Tally}
-use Rattle.survey.specs.Walk.{State, stopped, moved, firstFault, againBy, bareBy, lowBy, faultBy, faultOf}
-use Rattle.survey.specs.Walk.{judged, start, walk, surveyed}
+use Rattle.survey.specs.Walk.{State, stopped, moved, firstFault, againBy, bareBy, lowBy, faultBy, reachedBy, faultOf, judged, start, walk, surveyed}
 
 -- ---- the fault
 
-pub fault-near : (N next head : ℕ) (twin : Bool) (t : Tally) (st : State) → faultBy N next head twin t st ≡ 0 → next < N
-fault-near N next head twin t st e = by-test
-    (λ b. leb N next ≡ b → firstFault b (againBy st next) (isLocked head) (bareBy st (t .entries)) (not (eqb (t .wrong) 0)) twin
-    (lowBy st (t .low)) ≡ 0 → next < N)
+pub fault-near : (N next head : ℕ) (twin : Bool) (t : Tally) (low : ℕ) (st : State) → faultBy N next head twin t low st ≡ 0
+    → next < N
+fault-near N next head twin t low st e = by-test
+    (λ b. leb N next ≡ b → firstFault b (againBy st next) (isLocked head) (bareBy st (t .entries))
+    (not (eqb (t .wrong) 0)) twin (lowBy st low) ≡ 0 → next < N)
     (leb N next)
     (λ x q z. absurd (omega arith))
     (λ x q z. leb-false N next q)
@@ -39,27 +41,51 @@ fault-far L N st e = by-test
     e
   where
     rest : ℕ
-    rest = firstFault false (againBy st (L .next)) (L .lock) (bareBy st (count L)) (not (eqb (countTo (wrongAt L) (L .size)) 0))
-        (twins L)
+    rest = firstFault false (againBy st (L .next)) (L .lock) (bareBy st (count L))
+        (not (eqb (countTo (wrongAt L) (L .size)) 0)) (twins L)
         (lowBy st (countTo (atMost L (st .last)) (L .size)))
 
+-- some key is at most x
+module _ (L : Leaf) (t : Tally) (tells : Tells L t) (small : (s : ℕ) → L .key s ≤ 18446744073709551615) (x : ℕ) where
+  reached-is : eqb (reachedBy t x) 0 ≡ eqb (countTo (atMost L x) (L .size)) 0
+  unfolding count
+  reached-is =
+      ap (λ (b : Bool). eqb (cond b 1 0) 0)
+      ((λ i. both (not (eqb (tells .entries i) 0)) (leb (tells .least i) x)) ∙ least-reaches L (L .size) x small)
+      ∙ by-test (λ z. eqb (cond (not z) 1 0) 0 ≡ z) (eqb (countTo (atMost L x) (L .size)) 0) (λ e. refl) (λ e. refl)
+
 -- what the code has at hand is what is asked of the leaf
-pub fault-is : (L : Leaf) (N key next head : ℕ) (t : Tally) (st : State) → Tells L (st .last) key t → next ≡ L .next
-    → isLocked head ≡ L .lock
-    → faultBy N next head (twins L) t st ≡ faultOf L N st
+pub fault-is : (L : Leaf) (N next head : ℕ) (t : Tally) (st : State) → Tells L t
+    → ((s : ℕ) → L .key s ≤ 18446744073709551615) → next ≡ L .next → isLocked head ≡ L .lock
+    → faultBy N next head (twins L) t (reachedBy t (st .last)) st ≡ faultOf L N st
 unfolding faultOf
-fault-is L N key next head t st tells en el = λ i.
+fault-is L N next head t st tells small en el = λ i.
     firstFault (leb N (en i)) (againBy st (en i)) (el i) (bareBy st (tells .entries i)) (not (eqb (tells .wrong i) 0)) (twins L)
-    (lowBy st (tells .low i))
+    (both (not (eqb (st .entries) 0)) (not (reached-is L t tells small (st .last) i)))
 
 -- ---- the leaf judged
 
 module _ (L : Leaf) (N key : ℕ) (st : State) (fault : ℕ) (is : fault ≡ faultOf L N st) where
-  pub judged-on : (next : ℕ) (t : Tally) → Tells L (st .last) key t → next ≡ L .next → fault ≡ 0
-      → moved next (t .entries) (t .reached) (t .most) st ≡ judged L N key st
+  pub judged-on : (next : ℕ) (t : Tally) → Tells L t → ((s : ℕ) → L .key s ≤ 18446744073709551615) → next ≡ L .next → fault ≡ 0
+      → moved next (t .entries) (reachedBy t key) (t .most) st ≡ judged L N key st
   unfolding judged
-  judged-on next t tells en e =
-      rw (eq-eqb (faultOf L N st) 0 (sym is ∙ e)) (λ i. moved (en i) (tells .entries i) (tells .reached i) (tells .most i) st)
+  judged-on next t tells small en e =
+      rw (eq-eqb (faultOf L N st) 0 (sym is ∙ e))
+      (moved-by (reachedBy t key) (countTo (atMost L key) (L .size)) (reached-is L t tells small key) ∙
+      (λ i. moved (en i) (tells .entries i) (countTo (atMost L key) (L .size)) (tells .most i) st))
+    where
+      moved-by : (a b : ℕ) → eqb a 0 ≡ eqb b 0 → moved next (t .entries) a (t .most) st ≡ moved next (t .entries) b (t .most) st
+      moved-by a b q = λ i. record {
+        stage = cond (eqb next 0) 1 0;
+        at = next;
+        prev = st .at;
+        target = cond (q i) (st .target) (st .at);
+        before = cond (q i) (st .before) (st .prev);
+        leaves = st .leaves + 1;
+        entries = st .entries + t .entries;
+        last = cond (eqb (t .entries) 0) (st .last) (t .most);
+        met = upd (st .met) next true;
+      }
 
   pub judged-stop : (fault ≡ 0 → ⊥) → stopped fault st ≡ judged L N key st
   unfolding judged
@@ -67,9 +93,9 @@ module _ (L : Leaf) (N key : ℕ) (st : State) (fault : ℕ) (is : fault ≡ fau
 
 -- ---- the bounds that a walk keeps
 
-pub few-entries : (l : List ℕ) (last key : ℕ) (t : Tally) → Tells (leafIn l) last key t → t .entries ≤ 14
+pub few-entries : (l : List ℕ) (t : Tally) → Tells (leafIn l) t → t .entries ≤ 14
 unfolding leafIn count
-few-entries l last key t tells = omega (arith, tells .entries, count-most (leafIn l .occ) 14)
+few-entries l t tells = omega (arith, tells .entries, count-most (leafIn l .occ) 14)
 
 pub view-few : (w : ℕ → ℕ) (b : ℕ) → count (view w b) ≤ 14
 unfolding view count
@@ -94,8 +120,8 @@ pick-below false x y N a b = b
 judged-bounded : (w : ℕ → ℕ) (b N key i : ℕ) (st : State) → Bounded N i st → Bounded N (i + 1) (judged (view w b) N key st)
 unfolding judged
 judged-bounded w b N key i st B =
-    by-test (λ x. eqb (faultOf L N st) 0 ≡ x
-    → Bounded N (i + 1) (cond x (moved (L .next) (count L) reached most st) (stopped (faultOf L N st) st)))
+    by-test (λ x. eqb (faultOf L N st) 0 ≡ x → Bounded N (i + 1)
+    (cond x (moved (L .next) (count L) reached most st) (stopped (faultOf L N st) st)))
     (eqb (faultOf L N st) 0)
     (λ x e. record {
       at = near (eqb-true (faultOf L N st) 0 e);
@@ -148,7 +174,8 @@ walk-bounded : (w : ℕ → ℕ) (N key n i : ℕ) (st : State) → Bounded N i 
 unfolding walk
 walk-bounded w N key zero i st B = bounded-more N i (i + 0) st (omega arith) B
 walk-bounded w N key (suc n) i st B =
-    by-test (λ b. Bounded N (i + suc n) (cond b (walk (view w) N key n (judged (view w (st .at)) N key st)) st)) (eqb (st .stage) 0)
+    by-test (λ b. Bounded N (i + suc n) (cond b (walk (view w) N key n (judged (view w (st .at)) N key st)) st))
+    (eqb (st .stage) 0)
     (λ e.
     let q : i + 1 + n ≤ i + suc n = omega arith in
     bounded-more N (i + 1 + n) (i + suc n) _ q
@@ -170,7 +197,8 @@ module _ (I : ℕ → Leaf) (N key : ℕ) where
   pub walk-turn : (i : ℕ) (st r whole : State) → i < N → st .stage ≡ 0 → r ≡ judged (I (st .at)) N key st
       → walk I N key (N - i) st ≡ whole → walk I N key (N - (i + 1)) r ≡ whole
   unfolding walk
-  walk-turn i st r whole h e j is = sym (let n : N - i ≡ suc (N - (i + 1)) = omega arith in rw (n, eq-eqb (st .stage) 0 e, j)) ∙ is
+  walk-turn i st r whole h e j is = sym (let n : N - i ≡ suc (N - (i + 1)) = omega arith in rw (n, eq-eqb (st .stage) 0 e, j))
+      ∙ is
 
   pub walk-stop : (n : ℕ) (st : State) → (st .stage ≡ 0 → ⊥) → walk I N key n st ≡ st
   unfolding walk

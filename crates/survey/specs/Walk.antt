@@ -82,9 +82,14 @@ abbrev pub lowBy : State → ℕ → Bool
 lowBy st low = both (not (eqb (st .entries) 0)) (not (eqb low 0))
 
 -- the fault by what the code has at hand
-abbrev pub faultBy : (N next head : ℕ) → Bool → Tally → State → ℕ
-faultBy N next head twin t st =
-    firstFault (leb N next) (againBy st next) (isLocked head) (bareBy st (t .entries)) (not (eqb (t .wrong) 0)) twin (lowBy st (t .low))
+abbrev pub faultBy : (N next head : ℕ) → Bool → Tally → ℕ → State → ℕ
+faultBy N next head twin t low st =
+    firstFault (leb N next) (againBy st next) (isLocked head) (bareBy st (t .entries)) (not (eqb (t .wrong) 0)) twin
+    (lowBy st low)
+
+-- 1 where some key is at most x, by the smallest
+abbrev pub reachedBy : Tally → ℕ → ℕ
+reachedBy t x = cond (both (not (eqb (t .entries) 0)) (leb (t .least) x)) 1 0
 
 unfoldable pub faultOf : Leaf → ℕ → State → ℕ
 faultOf L N st =
@@ -106,7 +111,18 @@ walk I N key (suc n) st = cond (eqb (st .stage) 0) (walk I N key n (judged (I (s
 
 -- block 0 is met at the start
 abbrev pub start : State
-start = record { stage = 0; at = 0; prev = 0; target = 0; before = 0; leaves = 0; entries = 0; last = 0; met = upd (λ b. false) 0 true }
+start = record {
+  stage = 0;
+  at = 0;
+  prev = 0;
+  target = 0;
+  before = 0;
+  leaves = 0;
+  entries = 0;
+  last = 0;
+  met = upd
+      (λ b. false) 0 true;
+}
 
 unfoldable pub surveyed : (ℕ → Leaf) → ℕ → ℕ → State
 surveyed I N key = walk I N key N start

@@ -18,7 +18,7 @@ ghost use Rattle.leaf.specs.Leaf.{leafIn, view};
 ghost use Rattle.leaf.specs.Tally.{twins};
 ghost use Rattle.leaf.specs.TallySteps.{Hits};
 ghost use Rattle.survey.specs.Marks.{setOf, isIn};
-ghost use Rattle.survey.specs.Walk.{stateOf, firstFault, stopped, moved, faultBy, judged, start, surveyed};
+ghost use Rattle.survey.specs.Walk.{stateOf, firstFault, stopped, moved, faultBy, reachedBy, judged, start, surveyed};
 
 // Where the walk is and what it has noted. The stage is 0 while it goes on, 1 where the chain has ended, and else the fault:
 // request [1]'s numbers, 31 to 37. All are numbers, so that none is copied with padding.
@@ -44,6 +44,17 @@ fn and(a: bool, b: bool) -> bool
     ensures { λ r. ⌜ r ≡ both a b ⌝ }
 {
     if a { b } else { false }
+}
+
+// 1 where some key of the leaf is at most x, else 0.
+fn reaches(t: Tally, x: u64) -> u64
+    ensures { λ r. ⌜ r ≡ reachedBy t x ⌝ }
+{
+    if and(t.entries != 0, t.least <= x) {
+        1
+    } else {
+        0
+    }
 }
 
 // The first of the faults, in the order in which they are told, or 0.
@@ -91,9 +102,9 @@ fn stop(w: Walk, fault: u64) -> Walk
 }
 
 // The leaf at hand is good: note it, and go on to the next.
-fn onward(w: Walk, next: u64, t: Tally) -> Walk
+fn onward(w: Walk, next: u64, reached: u64, t: Tally) -> Walk
     requires { ⌜ (next < 256) × (w .leaves ≤ 256) × (w .entries ≤ 3584) × (t .entries ≤ 14) ⌝ }
-    ensures { λ r. ⌜ stateOf r ≡ moved next (t .entries) (t .reached) (t .most) (stateOf w) ⌝ }
+    ensures { λ r. ⌜ stateOf r ≡ moved next (t .entries) reached (t .most) (stateOf w) ⌝ }
 {
     let met = w.met;
     let met = met.with(next as usize);
@@ -101,8 +112,8 @@ fn onward(w: Walk, next: u64, t: Tally) -> Walk
         stage: pick(next == 0, 1, 0),
         at: next,
         prev: w.at,
-        target: pick(t.reached == 0, w.target, w.at),
-        before: pick(t.reached == 0, w.before, w.prev),
+        target: pick(reached == 0, w.target, w.at),
+        before: pick(reached == 0, w.before, w.prev),
         leaves: w.leaves + 1,
         entries: w.entries + t.entries,
         last: pick(t.entries == 0, w.last, t.most),
@@ -148,7 +159,7 @@ fn is_twinned(leaf: &[u8], head: Header, hits: u64) -> bool
 fn fault_of(leaf: &[u8], head: Header, n: u64, w: Walk, next: u64, t: Tally) -> u64
     requires { ⌜ (256 ≤ length (now leaf)) × (n ≤ 256) × (bitsOf head ≡ headAt (now leaf) 0)
         × (t .hits ≡ 0 → twins (leafIn (now leaf)) ≡ false) × Hits (leafIn (now leaf)) 14 (t .hits) ⌝ }
-    ensures { λ r. ⌜ r ≡ faultBy n next (bitsOf head) (twins (leafIn (now (leaf .entry)))) t (stateOf w) ⌝ }
+    ensures { λ r. ⌜ r ≡ faultBy n next (bitsOf head) (twins (leafIn (now (leaf .entry)))) t (reachedBy t (w .last)) (stateOf w) ⌝ }
 {
     if n <= next {
         return 31;
@@ -158,7 +169,7 @@ fn fault_of(leaf: &[u8], head: Header, n: u64, w: Walk, next: u64, t: Tally) -> 
     let bare = is_bare(t.entries, w.at);
     let wrong = t.wrong != 0;
     let twin = is_twinned(leaf, head, t.hits);
-    let low = is_low(w.entries, t.low);
+    let low = is_low(w.entries, reaches(t, w.last));
     first_fault(false, again, locked, bare, wrong, twin, low)
 }
 
@@ -174,10 +185,10 @@ fn judge(leaf: &[u8], n: u64, key: u64, stamps: &mut [u8], w: Walk) -> Walk
 {
     let head = Header::read(leaf, 0);
     let next = next_of(leaf, head);
-    let t = tally_of(leaf, head, w.last, key, stamps, number_of(w.leaves));
+    let t = tally_of(leaf, head, stamps, number_of(w.leaves));
     let fault = fault_of(leaf, head, n, w, next, t);
     if fault == 0 {
-        return onward(w, next, t);
+        return onward(w, next, reaches(t, key), t);
     }
     stop(w, fault)
 }

@@ -13,7 +13,7 @@ note-requires : tie.Need-note-requires
 note-requires c κs =
     let st = c .before .before .before .before .before .before .before .before .before .before in
     let a = st .args in (
-      tells-few (leafIn (now (a .leaf))) (a .last) (a .sought) (a .s) (a .t) (omega arith) (st .pre .4),
+      tells-few (leafIn (now (a .leaf))) (a .s) (a .t) (omega arith) (st .pre .4),
       c .before .before .stamp .ensures .2,
     )
 
@@ -21,7 +21,7 @@ pass-over-requires : tie.Need-pass-over-requires
 pass-over-requires c κs =
     let st = c .before .before .before .before in
     let a = st .args in
-    tells-few (leafIn (now (a .leaf))) (a .last) (a .sought) (a .s) (a .t) (omega arith) (st .pre .4) .hits
+    tells-few (leafIn (now (a .leaf))) (a .s) (a .t) (omega arith) (st .pre .4) .hits
 
 returns : tie.Need-returns
 returns c =
@@ -30,7 +30,7 @@ returns c =
     let o = p .before .before .before in
     let st = o .before .before .before in
     let a = st .args in (
-      tells-taken (leafIn (now (a .leaf))) (a .last) (a .sought) (a .s) (a .number) (now (a .stamps)) (a .t) (st .pre .4)
+      tells-taken (leafIn (now (a .leaf))) (a .s) (a .number) (now (a .stamps)) (a .t) (st .pre .4)
           (p .print-at .result) (p .before .key-at .result) (m .stamp .result) (c .note .result) (st .pre .5)
           (sym (o .occupied .ensures ∙ in-occ _ _ (st .pre .2) _ (omega arith)) ∙ p .before .before .if1 .taken)
           (p .print-at .ensures)
@@ -50,7 +50,7 @@ returns-2 c =
     let st = o .before .before .before in
     let a = st .args in
     let v = sym (o .occupied .ensures ∙ in-occ _ _ (st .pre .2) _ (omega arith)) ∙ c .before .if1 .left in (
-      tells-vacant (leafIn (now (a .leaf))) (a .last) (a .sought) (a .s) (a .number) (now (a .stamps)) (a .t) (st .pre .4) _ v
+      tells-vacant (leafIn (now (a .leaf))) (a .s) (a .number) (now (a .stamps)) (a .t) (st .pre .4) _ v
           (c .pass-over .ensures),
       stamped-vacant (leafIn (now (a .leaf))) (a .number) (a .s) (now (a .stamps)) (st .pre .5) v,
       refl,

@@ -10,16 +10,16 @@ use Rattle.leaf.proofs.tally.tally_of.Statement.{statement}
 use Rattle.leaf.proofs.tally.tally_of.Tie as tie
 
 abbrev Inv-loop : tie.InvT-loop
-Inv-loop leaf head last sought stamps₀ number t₀ s₀ stamps t s =
-    (s ≤ 14) × (length stamps ≡ length stamps₀) × TellsTo (leafIn leaf) last sought s t × Stamped (leafIn leaf) number s stamps
+Inv-loop leaf head stamps₀ number t₀ s₀ stamps t s =
+    (s ≤ 14) × (length stamps ≡ length stamps₀) × TellsTo (leafIn leaf) s t × Stamped (leafIn leaf) number s stamps
 
 abbrev μ-loop : tie.MeasureT-loop
-μ-loop leaf head last sought stamps₀ number t₀ s₀ stamps t s = 14 - s
+μ-loop leaf head stamps₀ number t₀ s₀ stamps t s = 14 - s
 
 loop-holds : tie.Need-loop-holds Inv-loop μ-loop
 loop-holds c =
     let a = c .before .before .args in
-    (omega arith, refl, tells-none (leafIn (now (a .leaf))) (a .last) (a .sought), λ t b o. absurd (omega arith))
+    (omega arith, refl, tells-none (leafIn (now (a .leaf))), λ t b o. absurd (omega arith))
 
 slot-requires : tie.Need-slot-requires Inv-loop μ-loop
 slot-requires c κs =
@@ -39,7 +39,7 @@ returns : tie.Need-returns Inv-loop μ-loop
 returns c =
     let k = c .before in
     let a = k .before .before .before .args in
-    let w = tells-whole (now (a .leaf)) (a .last) (a .sought) (k .loop .s) (k .loop .t) (k .loop .inv .2) (omega arith) in
+    let w = tells-whole (now (a .leaf)) (k .loop .s) (k .loop .t) (k .loop .inv .2) (omega arith) in
     (w .0, w .1, k .loop .inv .1)
 
 pub tally-of-spec : {M : Type 1} → statement M

@@ -1,46 +1,58 @@
 use borrow.Author.Needs.{needs}
 use native.Mathlib.Omega.{arith}
-use mathlib.Core.Path.{sym, _∙_}
+use mathlib.Core.Path.{sym, ap, _∙_}
+use mathlib.Core.List.{List}
+use Prim.Native.Nat.{ℕ, _≤_}
 use denote.Ref.{now}
+use Rattle.words.specs.WordLaws.{Bytes}
 use Rattle.header.specs.Header.{bitsOf}
 use Rattle.leaf.specs.Leaf.{leafIn}
 use Rattle.leaf.specs.Tally.{twins}
-use Rattle.leaf.specs.SearchSteps.{in-lock}
-use Rattle.survey.specs.Walk.{stateOf}
+use Rattle.leaf.specs.SearchSteps.{in-lock, key-small}
+use Rattle.survey.specs.Walk.{stateOf, moved, reachedBy}
 use Rattle.survey.specs.Turns.{fault-near, fault-is, judged-on, judged-stop, few-entries}
 use Rattle.survey.proofs.walk.judge.Statement.{statement}
 use Rattle.survey.proofs.walk.judge.Tie as tie
 
+small : (l : List ℕ) → Bytes l → (s : ℕ) → leafIn l .key s ≤ 18446744073709551615
+small l h s = omega (arith, key-small l s h)
+
 onward-requires : tie.Need-onward-requires
 onward-requires c κs =
-    let f = c .before in
+    let f = c .before .before in
     let t = f .before .before .before in
     let n = t .before .before .before in
     let a = n .before .before .before .before .args in
     let near = fault-near (a .n) (n .next-of .result) (bitsOf (n .before .read .result)) (twins (leafIn (now (a .leaf))))
     (t .tally-of .result)
-    (stateOf (a .w)) (sym (f .fault-of .ensures) ∙ c .if1 .taken) in
-    (omega arith, omega arith, omega arith, few-entries (now (a .leaf)) _ _ (t .tally-of .result) (t .tally-of .ensures .0))
+    (reachedBy (t .tally-of .result) (a .w .last))
+    (stateOf (a .w)) (sym (f .fault-of .ensures) ∙ c .before .if1 .taken) in
+    (omega arith, omega arith, omega arith, few-entries (now (a .leaf)) (t .tally-of .result) (t .tally-of .ensures .0))
 
 returns : tie.Need-returns
 returns c =
-    let f = c .before .before in
+    let f = c .before .before .before in
     let t = f .before .before .before in
     let n = t .before .before .before in
-    let a = n .before .before .before .before .args in
+    let g = n .before .before .before in
+    let a = g .before .args in
     let L = leafIn (now (a .leaf)) in (
       c .onward .ensures
+          ∙ ap (λ (x : ℕ). moved (n .next-of .result) (t .tally-of .result .entries) x (t .tally-of .result .most)
+          (stateOf (a .w))) (c .before .reaches .ensures)
           ∙ judged-on L (a .n) (a .key) (stateOf (a .w)) (f .fault-of .result)
           (f .fault-of .ensures
-          ∙ fault-is L (a .n) (a .key) (n .next-of .result) (bitsOf (n .before .read .result)) (t .tally-of .result)
+          ∙ fault-is L (a .n) (n .next-of .result) (bitsOf (n .before .read .result)) (t .tally-of .result)
           (stateOf (a .w)) (t .tally-of .ensures .0)
+          (small (now (a .leaf)) (λ i. omega (arith, g .shared-slice-known .given i)))
           (n .next-of .ensures)
           (in-lock (now (a .leaf)) _ (n .before .read .ensures)))
           (n .next-of .result)
           (t .tally-of .result)
           (t .tally-of .ensures .0)
+          (small (now (a .leaf)) (λ i. omega (arith, g .shared-slice-known .given i)))
           (n .next-of .ensures)
-          (c .before .if1 .taken),
+          (c .before .before .if1 .taken),
       t .tally-of .ensures .2,
     )
 
@@ -49,13 +61,15 @@ returns-2 c =
     let f = c .before .before in
     let t = f .before .before .before in
     let n = t .before .before .before in
-    let a = n .before .before .before .before .args in
+    let g = n .before .before .before in
+    let a = g .before .args in
     let L = leafIn (now (a .leaf)) in (
       c .stop .ensures
           ∙ judged-stop L (a .n) (a .key) (stateOf (a .w)) (f .fault-of .result)
           (f .fault-of .ensures
-          ∙ fault-is L (a .n) (a .key) (n .next-of .result) (bitsOf (n .before .read .result)) (t .tally-of .result)
+          ∙ fault-is L (a .n) (n .next-of .result) (bitsOf (n .before .read .result)) (t .tally-of .result)
           (stateOf (a .w)) (t .tally-of .ensures .0)
+          (small (now (a .leaf)) (λ i. omega (arith, g .shared-slice-known .given i)))
           (n .next-of .ensures)
           (in-lock (now (a .leaf)) _ (n .before .read .ensures)))
           (c .before .if1 .left),
@@ -67,4 +81,4 @@ judge-spec =
     tie.close
     (tie.spec
     (λ c κs. search needs) (λ c κs. search needs) (λ c κs. search needs) (λ c κs. search needs) (λ c κs. search needs)
-    onward-requires (λ c. search needs) returns (λ c κs. search needs) (λ c. search needs) returns-2)
+    (λ c κs. search needs) onward-requires (λ c. search needs) returns (λ c κs. search needs) (λ c. search needs) returns-2)

@@ -8,8 +8,8 @@ use Rattle.survey.proofs.walk.onward.Tie as tie
 returns : tie.Need-returns
 returns c =
     let p3 = c .before .before .before .before .before in
-    let p2 = p3 .before .before in
-    let p1 = p2 .before .before in
+    let p2 = p3 .before in
+    let p1 = p2 .before in
     let a = p1 .before .before .before .args in
     λ i. record {
       stage = p1 .pick .ensures i;
