@@ -173,9 +173,9 @@ fn fault_of(leaf: &[u8], head: Header, n: u64, w: Walk, next: u64, t: Tally) -> 
     first_fault(false, again, locked, bare, wrong, twin, low)
 }
 
-// The leaf's number for the stamps: not 0, which they hold at first, and that of no leaf near it.
+// The leaf's number for the stamps, from 255 down: they hold 0 at first, and no leaf near it has the same.
 fn number_of(leaves: u64) -> u8 {
-    (leaves % 255 + 1) as u8
+    (255 - leaves % 256) as u8
 }
 
 fn judge(leaf: &[u8], n: u64, key: u64, stamps: &mut [u8], w: Walk) -> Walk
