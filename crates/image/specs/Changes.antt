@@ -9,9 +9,11 @@ use native.Mathlib.Omega.{arith}
 use Rattle.leaf.specs.Leaf.{Leaf, In}
 use Rattle.image.specs.Map.{SameMap}
 use Rattle.image.specs.Chain.{All, Starts, Distinct, Has, Filled, Sound}
-use Rattle.image.specs.ChainLaws.{all-split, all-zip, all-map, distinct-at, has-right, has-split, Good, Agree}
+use Rattle.image.specs.Target.{Target}
+use Rattle.image.specs.ChainLaws.{all-split, all-zip, all-map, distinct-at, has-right, Good, Agree}
 use Rattle.image.specs.ChainLaws.{agree-sound, agree-map}
 use Rattle.image.specs.Stretch.{Changed, Replaced, replaced, part-rising, above-left, below-right, part-good}
+use Rattle.image.specs.TargetLaws.{target-find}
 use Rattle.image.specs.Same.{Slots, Same, slots-in, slots-sym, slots-right, slots-filled}
 use Rattle.image.specs.EditMaps.{Gives}
 use Rattle.image.specs.Parting.{Halves}
@@ -214,15 +216,12 @@ changed-stays I J N xs b ys cs S k v i c = record {
       | inl o ↦ o .0
       | inr n ↦ has-right I j u xs (b ∷ ys) (inl (rw (n .0) (n .1)))
     ];
-    back = λ j u h. c .map .back j u (elim (ℕ-discrete j k) [ yes e ↦ inr (e, find u (rw e at h)) | no ne ↦ inl (h, ne) ]);
+    back = λ j u h. c .map .back j u (elim (ℕ-discrete j k) [
+      | yes e ↦ inr (e, target-find I N xs b ys S k here u (rw e at h))
+      | no ne ↦ inl (h, ne)
+    ]);
   };
 }
   where
-    find : (u : ℕ) → Has I (xs ++ (b ∷ ys)) k u → In (I b) k u
-    find u h = elim (has-split I k u xs (b ∷ ys) h) [
-      | inl a ↦ absurd (omega (arith, above-left I N xs (b ∷ []) ys S k v (inl i) k u a))
-      | inr a ↦ elim a [
-        | inl g ↦ g
-        | inr g ↦ absurd (omega (arith, below-right I N xs (b ∷ []) ys S k v (inl i) k u g))
-      ]
-    ]
+    here : Target I b ys k
+    here = record { low = inr (k, v, i, omega arith); high = below-right I N xs (b ∷ []) ys S k v (inl i) }

@@ -3,7 +3,7 @@
 use Prim.Native.Nat.{ℕ, _+_, _*_, _≤_}
 use native.Mathlib.Omega.{arith}
 use mathlib.Core.List.{List, _++_}
-use mathlib.Core.Path.{_≡_, sym, ap, _∙_, fun-ext}
+use mathlib.Core.Path.{_≡_, sym, ap, _∙_}
 use mathlib.Core.Logic.{_⊎_, inl, inr}
 use lib.ListN.{length, length-append}
 use Rattle.words.specs.Update.{upd}
@@ -13,11 +13,11 @@ use Rattle.steps.specs.BelowLaws.{count-le, count-from, count-cong}
 use Rattle.steps.specs.Model.{line, run, cut, Rule, isLineWrite, lineWrites}
 use Rattle.steps.specs.Settling.{Lawful}
 use Rattle.steps.specs.Section.{Section, section-cut}
-use Rattle.steps.specs.Concatenation.{from, run-cong, run-from}
+use Rattle.steps.specs.Concatenation.{run-cong, run-from}
 use Rattle.steps.specs.Encoding.{stepsOf}
 use Rattle.steps.specs.Lists.{Each, each-append, at-left, at-right}
 use Rattle.steps.specs.Rules.{lines-in-lines}
-use Rattle.steps.specs.Shapes.{append-settled, append-cuts}
+use Rattle.steps.specs.Shapes.{from-append, append-settled, append-cuts}
 use Rattle.image.specs.Map.{Entry}
 use Rattle.image.specs.Chain.{Sound}
 use Rattle.image.specs.ChainSize.{chain-unique}
@@ -111,7 +111,7 @@ join-served rule L w N bs cs k l m price A x is S B = record {
   whole = rw (
     length-append k l,
     run-from upd (stepsOf (k ++ l)) w (length k) (length l),
-    onward,
+    from-append k l,
     run-cong (stepsOf (k ++ l)) (stepsOf k) upd w (length k) (at-left k l),
     is,
   )
@@ -132,9 +132,6 @@ join-served rule L w N bs cs k l m price A x is S B = record {
     Q n y =
         Left N y (listOf (view w) bs) (spent (k ++ l) n) (phi (view w) bs + perCut)
         ⊎ Left N y m (spent (k ++ l) n) (phi (view w) bs + perCut)
-
-    onward : from (length k) (stepsOf (k ++ l)) ≡ stepsOf l
-    onward = fun-ext (at-right k l)
 
     mid : Left N x (listOf (view w) bs) (spent k (length k)) (phi (view w) bs + 0)
     mid = rw is at (A .whole)

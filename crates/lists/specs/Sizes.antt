@@ -1,6 +1,6 @@
 -- How long the lists are: set and del 3 steps, a plain put 5 or at most 14, the split 42, a put at most 56; and their
 -- line writes: 1, 1 or 2, 6, at most 8.
-use Prim.Native.Nat.{ℕ, zero, suc, _+_, _*_, _≤_, _<_}
+use Prim.Native.Nat.{ℕ, suc, _+_, _*_, _≤_, _<_}
 use native.Mathlib.Decide.{decLt}
 use native.Mathlib.Omega.{arith}
 use mathlib.Core.Bool.{Bool, true, false, cond}
@@ -10,7 +10,7 @@ use lib.ListN.{length, length-append, length-drop}
 use borrow.Author.Tests.{lt-ltb, le-ltb}
 use Rattle.words.specs.Bools.{by-test}
 use Rattle.leaf.specs.Leaf.{Leaf, occIn, view}
-use Rattle.leaf.specs.Search.{leastFrom, lowestVacant}
+use Rattle.leaf.specs.Search.{lowestVacant}
 use Rattle.leaf.specs.SearchLaws.{vacant-at}
 use Rattle.leaf.specs.declared.search.Slot.{Slot}
 use Rattle.leaf.specs.declared.search.Slot.the-variants.{At, Missing}
@@ -20,7 +20,7 @@ use Rattle.steps.specs.Lists.{Each, each-append}
 use Rattle.steps.specs.Stores.{storesFrom, stores-length}
 use Rattle.steps.specs.Shapes.{twoParts}
 use Rattle.image.specs.Copies.{Copy}
-use Rattle.image.specs.Order.{onward, slotsFrom, slotsOf}
+use Rattle.image.specs.Order.{slotsFrom, slotsOf, slots-within}
 use Rattle.image.specs.Blocks.{view-size}
 use Rattle.lists.specs.Lists.{wordPlace, lowWord, headIn, copySteps, copiesBeside}
 use Rattle.lists.specs.Lists.{farStores, farBacks, setList, unlinkList, clearList, isAlone, delList, nearPut}
@@ -127,21 +127,13 @@ entry-length L (s ∷ ss) = omega (arith, entry-length L ss)
 pub new-length : (up : Bool) (L : Leaf) (ss : List ℕ) (k v : ℕ) → length (newWords up L ss k v) ≡ 18 + 2 * length ss
 new-length up L ss k v = omega (arith, length-append (entryWords L ss) (L .next ∷ 0 ∷ []), entry-length L ss)
 
-slots-few : (L : Leaf) (n lo : ℕ) → length (slotsFrom L n lo) ≤ n
-unfolding slotsFrom
-slots-few L zero lo = omega arith
-slots-few L (suc n) lo =
-    by-slot (λ x. length (onward x (λ s. slotsFrom L n (suc (L .key s)))) ≤ suc n) (leastFrom L lo)
-    (λ s e. omega (arith, slots-few L n (suc (L .key s))))
-    (λ e. omega arith)
-
 moved-few : (w : ℕ → ℕ) (b : ℕ) → length (movedSlots (view w b)) ≤ 7
 unfolding movedSlots slotsOf
 moved-few w b =
     omega (
       arith,
       length-drop 7 (slotsFrom (view w b) (view w b .size) 0),
-      slots-few (view w b) (view w b .size) 0,
+      slots-within (view w b) (view w b .size) 0,
       view-size w b,
     )
 

@@ -9,12 +9,9 @@ use lib.Dec.{eqb}
 use lib.ListN.{length, getD, take, length-append, length-take, replicate}
 use lib.Seq.{take-all}
 use Rattle.leaf.specs.Leaf.{Leaf}
-use Rattle.leaf.specs.Search.{leastFrom}
-use Rattle.leaf.specs.declared.search.Slot.{Slot}
-use Rattle.leaf.specs.declared.search.Slot.the-variants.{At, Missing}
 use Rattle.steps.specs.Refusals.{answer}
 use Rattle.image.specs.Map.{Entry, only, startingAt}
-use Rattle.image.specs.Order.{onward, slotsFrom, slotsOf}
+use Rattle.image.specs.Order.{slotsOf, slots-within}
 use Rattle.image.specs.Entries.{entriesOf, entries-length, listOf}
 use Rattle.image.specs.Image.{blocks, leaves}
 use Rattle.image.specs.Blocks.{view-size}
@@ -24,15 +21,6 @@ use Rattle.command.specs.Stores.{rowsTo}
 use Rattle.perform.specs.Perform.{row, rows}
 
 -- ---- how many entries there can be
-
-slots-within : (L : Leaf) (n lo : ℕ) → length (slotsFrom L n lo) ≤ n
-unfolding slotsFrom
-slots-within L zero lo = omega arith
-slots-within L (suc n) lo = go (leastFrom L lo) (slots-within L n)
-  where
-    go : (x : Slot) → ((m : ℕ) → length (slotsFrom L n m) ≤ n) → length (onward x (λ s. slotsFrom L n (suc (L .key s)))) ≤ suc n
-    go (At s) ih = omega (arith, ih (suc (L .key s)))
-    go Missing ih = omega arith
 
 leaf-within : (l : List ℕ) (b : ℕ) → length (entriesOf (leaves l b)) ≤ 14
 unfolding entriesOf slotsOf

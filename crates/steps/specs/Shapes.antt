@@ -179,13 +179,13 @@ module _ (unit : ℕ → ℕ) (W : InLines unit) (rule : Rule) (L : Lawful rule)
 
 -- ---- one list behind another
 
+pub from-append : (k l : List Step) → from (length k) (stepsOf (k ++ l)) ≡ stepsOf l
+from-append k l = fun-ext (at-right k l)
+
 module _ (unit : ℕ → ℕ) (W : InLines unit) (rule : Rule) (L : Lawful rule) (k l : List Step)
     (all : AllSettled rule (stepsOf k) (length k)) where
   start : Agree (stepsOf k) (stepsOf (k ++ l)) (length k)
   start i h = sym (at-left k l i h)
-
-  onward : from (length k) (stepsOf (k ++ l)) ≡ stepsOf l
-  onward = fun-ext (at-right k l)
 
   still : AllSettled rule (stepsOf (k ++ l)) (length k)
   still = all-settled-cong (stepsOf k) (stepsOf (k ++ l)) rule (length k) start all
@@ -204,4 +204,4 @@ module _ (unit : ℕ → ℕ) (W : InLines unit) (rule : Rule) (L : Lawful rule)
   append-cuts {M} write m Q A B =
       cuts-join unit W rule L (stepsOf (k ++ l)) (length k) write still m Q (length l)
       (cuts-cong (stepsOf k) (stepsOf (k ++ l)) write unit W rule L m (length k) Q start A)
-      (rw (onward, sym (run-cong (stepsOf k) (stepsOf (k ++ l)) write m (length k) start)) B)
+      (rw (from-append k l, sym (run-cong (stepsOf k) (stepsOf (k ++ l)) write m (length k) start)) B)
