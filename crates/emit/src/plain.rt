@@ -16,7 +16,7 @@ ghost use Prim.Native.Nat.{_+_, _*_, _≤_, _<_};
 ghost use lib.ListN.{length};
 ghost use Rattle.header.specs.Header.{bitsOf, marked, cleared, fingerprintOf};
 ghost use Rattle.leaf.specs.Leaf.{leafIn, occIn};
-ghost use Rattle.lists.specs.Lists.{entrySteps, nearPut, lastBeside, copiesBeside, copySteps, filledHead};
+ghost use Rattle.lists.specs.Lists.{entrySteps, nearPut, copiesBeside, copySteps, filledHead};
 ghost use Rattle.lists.specs.Lists.{farPut, putAt, plainPut};
 ghost use Rattle.emit.specs.Appended.{appended, Wrote};
 ghost use Rattle.emit.specs.CopyLaws.{Turned};
@@ -27,15 +27,12 @@ fn append_entry(list: &mut [u64], at: usize, block: u64, s: usize, key: u64, val
     requires { ⌜ (2 * at + 4 ≤ length (now list)) × (block < 256) × (s < 14) ⌝ }
     ensures { λ _. ⌜ now (list .exit) ≡ appended (now (list .entry)) at (entrySteps block s key value) ⌝ }
 {
-    put_step(
-        list,
-        at,
-        Step::Store(32 * block + (2 + 2 * (s as u64)), key),
-    );
+    let place = Leaf::WORDS * block;
+    put_step(list, at, Step::Store(place + Leaf::key_word(s), key));
     put_step(
         list,
         at + 1,
-        Step::Store(32 * block + (3 + 2 * (s as u64)), value),
+        Step::Store(place + Leaf::value_word(s), value),
     );
 }
 
@@ -55,23 +52,9 @@ fn append_near_put(
     append_store(
         list,
         at + 2,
-        32 * block,
+        Leaf::WORDS * block,
         word0(head.mark(s, fingerprint_of(key))),
     );
-}
-
-// The last slot in the line of slot s, which is past line 0.
-fn last_beside(s: usize) -> usize
-    requires { ⌜ (3 ≤ s) × (s < 14) ⌝ }
-    ensures { λ r. ⌜ (r ≡ lastBeside s) × (s ≤ r) × (r < 14) × (r ≤ s + 3) ⌝ }
-{
-    if s < 7 {
-        return 6;
-    }
-    if s < 11 {
-        return 10;
-    }
-    13
 }
 
 // The header with the entry of one slot moved to another.
@@ -88,7 +71,7 @@ fn filled_head(head: Header, leaf: &[u8], s: usize, key: u64) -> Header
     requires { ⌜ (256 ≤ length (now leaf)) × (3 ≤ s) × (s < 14) ⌝ }
     ensures { λ r. ⌜ bitsOf r ≡ filledHead (bitsOf head) (leafIn (now (leaf .entry))) s key ⌝ }
 {
-    let last = last_beside(s);
+    let last = Leaf::last_beside(s);
     let mut filled = head.mark(s, fingerprint_of(key));
     let mut from = 0;
     let mut t = s + 1;
@@ -137,7 +120,7 @@ fn append_copies(
         ≡ appended (now (list .entry)) at (copySteps (leafIn (now (leaf .entry))) block (copiesBeside (bitsOf head) s)))
         × (r ≡ length (copiesBeside (bitsOf head) s)) × (r ≤ 3) ⌝ }
 {
-    let last = last_beside(s);
+    let last = Leaf::last_beside(s);
     let mut from: usize = 0;
     let mut t = s + 1;
     while t <= last {
@@ -152,8 +135,9 @@ fn append_header(list: &mut [u64], at: usize, block: u64, head: Header)
     requires { ⌜ (2 * at + 8 ≤ length (now list)) × (block < 256) ⌝ }
     ensures { λ _. ⌜ now (list .exit) ≡ appended (now (list .entry)) at (headerSteps block (bitsOf head)) ⌝ }
 {
-    put_step(list, at, Step::Store(32 * block + 1, word1(head)));
-    append_store(list, at + 1, 32 * block, word0(head));
+    let place = Leaf::WORDS * block;
+    put_step(list, at, Step::Store(place + 1, word1(head)));
+    append_store(list, at + 1, place, word0(head));
 }
 
 // A line written back, and a fence.
@@ -183,7 +167,7 @@ fn append_far_put(
     append_entry(list, at, block, s, key, value);
     let n = append_copies(list, at + 2, head, leaf, block, s);
     let behind = at + 2 + 2 * n;
-    append_settling(list, behind, 4 * block + (Leaf::line(s) as u64));
+    append_settling(list, behind, Leaf::LINES * block + Leaf::line(s));
     append_header(list, behind + 2, block, filled_head(head, leaf, s, key));
     8 + 2 * n
 }

@@ -1,6 +1,7 @@
 // The lists of three steps: set, and both of del.
 use crate::head::word0;
 use header::Header;
+use leaf::place::Leaf;
 use machine::list::put_step;
 use steps::Step;
 ghost use mathlib.Core.Path.{_≡_};
@@ -27,7 +28,12 @@ pub fn write_set(list: &mut [u64], block: u64, s: u64, value: u64)
     requires { ⌜ (6 ≤ length (now list)) × (block < 256) × (s < 14) ⌝ }
     ensures { λ _. ⌜ now (list .exit) ≡ written (setList block s value) (now (list .entry)) ⌝ }
 {
-    append_store(list, 0, 32 * block + (3 + 2 * s), value);
+    append_store(
+        list,
+        0,
+        Leaf::WORDS * block + Leaf::value_word(s as usize),
+        value,
+    );
 }
 
 // The header is that of the block in some image, whose list this is.
@@ -36,7 +42,7 @@ pub fn write_clear(list: &mut [u64], head: Header, block: u64, s: usize)
     ensures { λ _. ⌜ ((w : ℕ → ℕ) → headIn w block ≡ bitsOf head
         → now (list .exit) ≡ written (clearList w block s) (now (list .entry))) ⌝ }
 {
-    append_store(list, 0, 32 * block, word0(head.clear(s)));
+    append_store(list, 0, Leaf::WORDS * block, word0(head.clear(s)));
 }
 
 // The header is that of the block before; `next` is the active sibling of the leaf that is taken out.
@@ -45,5 +51,10 @@ pub fn write_unlink(list: &mut [u64], head: Header, before: u64, next: u64)
     ensures { λ _. ⌜ ((w : ℕ → ℕ) (block : ℕ) → headIn w before ≡ bitsOf head → view w block .next ≡ next
         → now (list .exit) ≡ written (unlinkList w before block) (now (list .entry))) ⌝ }
 {
-    append_store(list, 0, 32 * before + (30 + head.alt()), next);
+    append_store(
+        list,
+        0,
+        Leaf::WORDS * before + Leaf::sibling_word(head.alt()),
+        next,
+    );
 }

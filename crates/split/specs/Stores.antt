@@ -88,15 +88,16 @@ module _ (list r whole : List ℕ) (at p i : ℕ) where
 
 -- ---- the new leaf
 
-pub new-leaf : (l0 l1 l2 l3 : List ℕ) (p : ℕ) (up : Bool) (L : Leaf) (ss : List ℕ) (k v h x y n : ℕ) → length ss ≡ 7
+pub new-leaf : (l0 l1 l2 l3 : List ℕ) (p q r : ℕ) (up : Bool) (L : Leaf) (ss : List ℕ) (k v h x y n : ℕ) → length ss ≡ 7
+    → q ≡ p + 16 → r ≡ p + 30
     → l1 ≡ appended l0 0 (storesFrom p (lowWord h ∷ highWord h ∷ (replicate 12 0 ++ (x ∷ y ∷ []))))
-    → l2 ≡ appended l1 16 (storesFrom (p + 16) (entryWords L ss)) → l3 ≡ appended l2 30 (storesFrom (p + 30) (n ∷ 0 ∷ []))
+    → l2 ≡ appended l1 16 (storesFrom q (entryWords L ss)) → l3 ≡ appended l2 30 (storesFrom r (n ∷ 0 ∷ []))
     → h ≡ newHeader up L ss k → x ≡ cond up k 0 → y ≡ cond up v 0 → n ≡ L .next
     → l3 ≡ appended l0 0 (storesFrom p (newWords up L ss k v))
-new-leaf l0 l1 l2 l3 p up L ss k v h x y n seven e1 e2 e3 eh ex ey en =
+new-leaf l0 l1 l2 l3 p q r up L ss k v h x y n seven eq er e1 e2 e3 eh ex ey en =
     let low = lowWord h ∷ highWord h ∷ (replicate 12 0 ++ (x ∷ y ∷ [])) in
-    stores-more l0 l2 l3 0 30 p (p + 30) (low ++ entryWords L ss) (n ∷ 0 ∷ [])
-    (stores-more l0 l1 l2 0 16 p (p + 16) low (entryWords L ss) e1 refl refl e2)
+    stores-more l0 l2 l3 0 30 p r (low ++ entryWords L ss) (n ∷ 0 ∷ [])
+    (stores-more l0 l1 l2 0 16 p q low (entryWords L ss) e1 refl eq e2)
     (omega (arith, entry-length L ss))
     (omega (arith, entry-length L ss))
     e3

@@ -5,6 +5,7 @@ use emit::head::word0;
 use emit::head::word1;
 use emit::short::append_store;
 use header::Header;
+use leaf::place::Leaf;
 use leaf::search::key_at;
 use leaf::search::next_of;
 use leaf::search::value_at;
@@ -82,8 +83,8 @@ fn write_lower(list: &mut [u64], place: u64, head: Header, key: u64, value: u64)
         (lowWord (bitsOf head) ∷ highWord (bitsOf head) ∷ (replicate 12 0 ++ (key ∷ value ∷ [])))) ⌝ }
 {
     append_pair(list, 0, place, word0(head), word1(head));
-    append_zeros(list, 2, place + 2);
-    append_pair(list, 14, place + 14, key, value);
+    append_zeros(list, 2, place + Leaf::key_word(0));
+    append_pair(list, 14, place + Leaf::key_word(6), key, value);
 }
 
 // "Its 32 words are stored in rising order", from the start of the list on.
@@ -102,7 +103,7 @@ fn write_new_leaf(
     ensures { λ _. ⌜ now (list .exit) ≡ appended (now (list .entry)) 0
         (storesFrom (wordPlace new 0) (newWords up (leafIn (now (leaf .entry))) (now (moved .entry)) key value)) ⌝ }
 {
-    let place = 32 * new;
+    let place = Leaf::WORDS * new;
     write_lower(
         list,
         place,
@@ -110,8 +111,14 @@ fn write_new_leaf(
         or_zero(up, key),
         or_zero(up, value),
     );
-    append_moved(list, 16, place + 16, leaf, moved);
-    append_pair(list, 30, place + 30, next_of(leaf, head), 0);
+    append_moved(list, 16, place + Leaf::key_word(7), leaf, moved);
+    append_pair(
+        list,
+        30,
+        place + Leaf::sibling_word(0),
+        next_of(leaf, head),
+        0,
+    );
 }
 
 // "Write back the new leaf's four lines in order, then line 3 of the old leaf; fence."
@@ -119,11 +126,16 @@ fn append_backs(list: &mut [u64], at: usize, old: u64, new: u64)
     requires { ⌜ (2 * at + 12 ≤ length (now list)) × (old < 256) × (new < 256) ⌝ }
     ensures { λ _. ⌜ now (list .exit) ≡ appended (now (list .entry)) at (splitBacks old new ++ fence ∷ []) ⌝ }
 {
-    put_step(list, at, Step::WriteBack(4 * new));
-    put_step(list, at + 1, Step::WriteBack(4 * new + 1));
-    put_step(list, at + 2, Step::WriteBack(4 * new + 2));
-    put_step(list, at + 3, Step::WriteBack(4 * new + 3));
-    put_step(list, at + 4, Step::WriteBack(4 * old + 3));
+    let line = Leaf::LINES * new;
+    put_step(list, at, Step::WriteBack(line));
+    put_step(list, at + 1, Step::WriteBack(line + 1));
+    put_step(list, at + 2, Step::WriteBack(line + 2));
+    put_step(list, at + 3, Step::WriteBack(line + 3));
+    put_step(
+        list,
+        at + 4,
+        Step::WriteBack(Leaf::LINES * old + Leaf::SIBLING_LINE),
+    );
     put_step(list, at + 5, Step::Fence);
 }
 
@@ -146,11 +158,12 @@ pub fn write_split(
         → now (list .exit) ≡ written (splitList w block new key value) (now (list .entry))) ⌝ }
 {
     write_new_leaf(list, head, leaf, moved, new, up, key, value);
+    let place = Leaf::WORDS * block;
     put_step(
         list,
         32,
-        Step::Store(32 * block + (30 + (1 - head.alt())), new),
+        Step::Store(place + Leaf::sibling_word(1 - head.alt()), new),
     );
     append_backs(list, 33, block, new);
-    append_store(list, 39, 32 * block, word0(old_head(head, moved)));
+    append_store(list, 39, place, word0(old_head(head, moved)));
 }

@@ -1,7 +1,7 @@
 use borrow.Author.Needs.{needs}
 use native.Mathlib.Omega.{arith}
 use mathlib.Core.Path.{sym, ap, _∙_}
-use Prim.Native.Nat.{ℕ, _-_}
+use Prim.Native.Nat.{ℕ, _+_, _-_, _*_}
 use lib.ListN.{length}
 use mathlib.Core.List.{List}
 use Rattle.header.specs.Header.{altIn, bitsOf}
@@ -23,7 +23,7 @@ write-new-leaf-requires c κs =
 old-head-requires : tie.Need-old-head-requires
 old-head-requires c κs =
     let two = c .before .before .before .before .before .before .before in
-    let s = two .before .before .before .before .before .before .before .before .before .before in
+    let s = two .before .before .before .before .before .before .before .before .before .before .before in
     (s .pre .2, (λ i. rw (s .pre .6) (moved-below (s .args .leaf .now) i)))
 
 returns : tie.Need-returns
@@ -33,7 +33,8 @@ returns c = λ w eh ev.
     let o = z .before in
     let three = o .before .before .before .before in
     let two = three .before .before .before .before in
-    let t = two .before in
+    let n = two .before in
+    let t = n .before in
     let one = t .before .before .before .before in
     let s = one .before .before .before .before .before in
     let a = s .args in
@@ -45,7 +46,8 @@ returns c = λ w eh ev.
     (one .write-new-leaf .ensures)
     (words-same w (a .block) (a .new) (a .key) (a .value) (a .up) L (a .moved .now) ev (s .pre .6) (s .pre .7))
     (two .put-step .ensures)
-    (ap (λ (i : ℕ). sibPlace (a .block) (1 - i)) (t .alt .ensures ∙ ap altIn (sym eh)))
+    (ap (λ (i : ℕ). 32 * a .block + i) (n .sibling-word .ensures)
+    ∙ ap (λ (i : ℕ). sibPlace (a .block) (1 - i)) (t .alt .ensures ∙ ap altIn (sym eh)))
     (three .append-backs .ensures)
     (four .append-store .ensures)
     (start-place (a .block))
@@ -60,6 +62,5 @@ write-split-spec =
     write-new-leaf-requires (λ c. search needs) (λ c κs. search needs)
     (λ c. let s = c .before .before .before .before .before .before .before .before .before in
     omega (arith, alt-lt (bitsOf (s .args .head)), c .alt .ensures))
-    (λ c. search needs)
-    (λ c. search needs) (λ c κs. search needs) (λ c κs. search needs) (λ c. search needs) old-head-requires
+    (λ c κs. search needs) (λ c. search needs) (λ c κs. search needs) (λ c κs. search needs) old-head-requires
     (λ c κs. search needs) (λ c κs. search needs) (λ c. search needs) returns)

@@ -1,7 +1,7 @@
 use native.Mathlib.Omega.{arith}
 use borrow.Author.Tests.{lt-ltb, le-ltb}
-use Rattle.emit.proofs.plain.last_beside.Statement.{statement}
-use Rattle.emit.proofs.plain.last_beside.Tie as tie
+use Rattle.leaf.proofs.place.Leaf.last_beside.Statement.{statement}
+use Rattle.leaf.proofs.place.Leaf.last_beside.Tie as tie
 
 pub last-beside-spec : {M : Type 1} → statement M
 last-beside-spec =
