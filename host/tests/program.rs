@@ -4,10 +4,7 @@ use std::path::PathBuf;
 use std::process::{Command, Stdio};
 use stringhut::random::Random;
 use stringhut::reference::program;
-use stringhut::trial::settings::Settings;
-
-const MALFORMED: &str = "9\t0\t0\t0\n";
-const MOST_INPUT: usize = 65_536;
+use stringhut::trial::{self, settings::Settings};
 
 fn proved(input: &[u8]) -> String {
     let built = PathBuf::from(env!("CARGO_MANIFEST_DIR")).join("../target/bin/bench");
@@ -32,37 +29,19 @@ fn agreed(input: &[u8]) -> String {
     ours
 }
 
-/// Document 01's example, tabs for its spaces.
 #[test]
 fn example() {
-    let input = "put 10 100\nput 10 7\nget 10\ndel 11\nset 10 101\nlist\ndel 10\nlist\npot 1";
-    let output = "0 5 1 3\n4 0 0 0\n0 100\n5 0 0 0\n0 3 1 1\n10 101\n0 3 1 1\n9 0 0 0\n";
-    assert_eq!(proved(input.replace(' ', "\t").as_bytes()), output.replace(' ', "\t"));
+    trial::program::example(&agreed);
 }
 
-/// "Anything else, an empty line or a number above 2^64 - 1 included, is malformed."
 #[test]
 fn malformed_lines() {
-    let lines: [&[u8]; 27] = [
-        b"", b" ", b"\t", b"put", b"put\t1", b"put\t1\t", b"put\t\t1", b"put\t1\t2\t", b"put\t1\t2\t3", b"put\t01\t2",
-        b"put\t+1\t2", b"put\t1\t18446744073709551616", b"get\t99999999999999999999", b"get\t100000000000000000000",
-        b"list\t", b"lis", b"listt", b"del\t", b"del\t1\r", b"\tget\t1", b"PUT\t1\t1", b"get\t 1", b"get\t-0", b"get\t00",
-        b"put 1 2", b"get\t1\0", b"\xff\xfe",
-    ];
-    for line in lines {
-        assert_eq!(agreed(&[line, b"\n"].concat()), MALFORMED, "{line:?}");
-    }
+    trial::program::malformed_lines(&agreed);
 }
 
 #[test]
 fn input_bounds() {
-    assert_eq!(agreed(b""), "");
-    assert_eq!(agreed(b"\n"), MALFORMED);
-    assert_eq!(agreed(b"get\t0"), "5\t0\n");
-    assert_eq!(agreed(b"put\t18446744073709551615\t18446744073709551615"), "0\t5\t1\t3\n");
-    assert_eq!(agreed(&[b'\n'; MOST_INPUT]), MALFORMED.repeat(MOST_INPUT));
-    assert_eq!(agreed(&[b'\n'; MOST_INPUT + 1]), MALFORMED);
-    assert_eq!(agreed(&[b'0'; MOST_INPUT]), MALFORMED);
+    trial::program::input_bounds(&agreed);
 }
 
 /// Puts in random order until 4 blocks hold 14 entries each, and a list of all of them with long numbers.

@@ -5,7 +5,7 @@ use crate::answers::Made;
 use crate::calls::Calls;
 use crate::reference::image::map_of;
 use crate::reference::leaf::{Leaf, sibling_place};
-use crate::reference::steps::{LIST_WORDS, Step, first_steps};
+use crate::reference::steps::{LIST_WORDS, Step, counts, first_steps};
 
 fn made(steps: u64, line_writes: u64, word_writes: u64) -> Made {
     Made { answer: 0, steps, line_writes, word_writes }
@@ -14,6 +14,8 @@ fn made(steps: u64, line_writes: u64, word_writes: u64) -> Made {
 fn put(calls: &dyn Calls, image: &mut [u8], key: u64) -> Made {
     let mut list = [0; LIST_WORDS];
     let made = calls.put(image, &mut list, key, 100 * key);
+    let steps = first_steps(&list, made.steps, image.len()).expect("a list of ours is well formed");
+    assert_eq!(made, Made { answer: made.answer, ..Ok(counts(&steps)).into() }, "the counts told are the list's own");
     assert_eq!(calls.run(image, &list, made.steps), 0);
     made
 }
@@ -39,8 +41,9 @@ pub fn p2_p3(calls: &dyn Calls, _: &Settings) {
             12 => made(12, 2, 8),
             _ => made(5, 1, 3),
         };
-        assert_eq!(put(calls, &mut image, key), expected, "put {key}");
-        line_writes += expected.line_writes;
+        let made = put(calls, &mut image, key);
+        assert_eq!(made, expected, "put {key}");
+        line_writes += made.line_writes;
     }
     assert_eq!(line_writes, 17);
     assert_eq!(word_0(&image) & 0xFFFF, 0x3FFF, "full, lock and alt 0");

@@ -7,6 +7,7 @@ pub mod cases;
 pub mod cuts;
 pub mod damage;
 pub mod lists;
+pub mod program;
 pub mod refusals;
 pub mod run;
 pub mod runs;

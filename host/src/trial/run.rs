@@ -3,13 +3,13 @@
 use super::alike::scramble;
 use super::cuts::{Change, Depth, all_cuts, some_arrivals};
 use super::universe::Universe;
-use crate::answers::{LineWrites, Made, Recovered};
+use crate::answers::{Made, Recovered};
 use crate::calls::Calls;
 use crate::model::{Kind, Map, Tally};
 use crate::random::Random;
-use crate::reference::image::{Chained, entries, sound_chain};
+use crate::reference::image::{Chained, entries, sound_chain, target};
 use crate::reference::memory::{Permitted, lines};
-use crate::reference::steps::{LIST_WORDS, first_steps, line_writes};
+use crate::reference::steps::{LIST_WORDS, Step, counts, first_steps, line_writes};
 
 /// What a run must have met, so that it cannot pass by missing it.
 #[derive(Clone, Copy, Debug, Default)]
@@ -188,13 +188,7 @@ impl<'a> Run<'a> {
         };
         let written = 2 * made.steps as usize;
         assert_eq!(list[written..], list_before[written..], "words past the list stay");
-        let fits = match (kind, self.map.get(key)) {
-            (Kind::Put, Some(_)) => made.answer == 4,
-            (Kind::Put, None) => made.answer == 0 || made.answer == 6,
-            (_, Some(_)) => made.answer == 0,
-            (_, None) => made.answer == 5,
-        };
-        assert!(fits, "{kind:?} {key} answered {}", made.answer);
+        assert_eq!(made.answer, self.expected_answer(kind, key), "{kind:?} {key}");
         self.met.refused_full += u64::from(made.answer == 6);
         if made.answer == 0 {
             self.take(kind, key, value, &list, made);
@@ -203,21 +197,44 @@ impl<'a> Run<'a> {
         }
     }
 
-    /// Tries the cuts of an accepted list, then takes it whole or cut.
+    /// By the plain map; refusal 6 by the walk along the chain.
+    fn expected_answer(&self, kind: Kind, key: u64) -> u64 {
+        match (kind, self.map.get(key)) {
+            (Kind::Put, Some(_)) => 4,
+            (Kind::Put, None) if self.no_block_left(key) => 6,
+            (Kind::Set | Kind::Del, None) => 5,
+            _ => 0,
+        }
+    }
+
+    /// "Target full and all N blocks chained."
+    fn no_block_left(&self, key: u64) -> bool {
+        if !self.chained.iter().all(|&chained| chained) {
+            return false;
+        }
+        let chain = sound_chain(&self.image).expect("between calls the image is sound");
+        assert_eq!(chain.len(), self.chained.len(), "all blocks are chained");
+        chain[target(&chain, key)].leaf.vacant_slots().is_empty()
+    }
+
+    /// Tries the cuts of an accepted list, then takes it whole or cut. Only a cut may leave the map as it was.
     fn take(&mut self, kind: Kind, key: u64, value: u64, list: &[u64], made: Made) {
+        let steps = first_steps(list, made.steps, self.image.len()).expect("a list of ours is well formed");
+        assert_eq!(made, Ok(counts(&steps)).into(), "the counts told are the list's own");
         let before: Vec<(u64, u64)> = self.map.from(0).collect();
         if self.random.one_in(self.cuts_one_in) {
             self.try_all_cuts(kind, key, value, list, made);
         }
-        if self.random.one_in(5) {
-            self.take_cut(list, made);
-        } else {
+        let whole = !self.random.one_in(5);
+        if whole {
             assert_eq!(self.calls.run(&mut self.image, list, made.steps), 0);
-            self.tally.whole(kind, LineWrites(made.line_writes));
+            self.tally.whole(kind, line_writes(&steps));
+        } else {
+            self.take_cut(list, &steps);
         }
         let chain = sound_chain(&self.image).expect("a run or cut list leaves a sound image");
         let left = entries(&chain);
-        if left != before {
+        if whole || left != before {
             apply(&mut self.map, kind, key, value);
         }
         assert!(self.map.is(&left), "{kind:?} {key}: the map after");
@@ -234,12 +251,11 @@ impl<'a> Run<'a> {
         self.met.cut_images += all_cuts(self.calls, &change, self.depth, &mut self.random);
     }
 
-    fn take_cut(&mut self, list: &[u64], made: Made) {
-        let n = self.random.below(made.steps + 1);
-        let taken = first_steps(list, n, self.image.len()).expect("a list of ours is well formed");
-        let arrivals = some_arrivals(&Permitted::after(&taken, lines(&self.image)), &mut self.random);
-        assert_eq!(self.calls.cut(&mut self.image, list, n, &arrivals), 0);
-        self.tally.cut(line_writes(&taken));
+    fn take_cut(&mut self, list: &[u64], steps: &[Step]) {
+        let taken = &steps[..self.random.index(steps.len() + 1)];
+        let arrivals = some_arrivals(&Permitted::after(taken, lines(&self.image)), &mut self.random);
+        assert_eq!(self.calls.cut(&mut self.image, list, taken.len() as u64, &arrivals), 0);
+        self.tally.cut(line_writes(taken));
     }
 
     fn note_blocks(&mut self, chain: &[Chained]) {
