@@ -1,12 +1,13 @@
 //! A caller that wants to wear the memory out: of many calls, whole or cut, it takes the one that eats most of demand 3's
 //! slack. Cut calls may be such that nothing is gained, so that they can be made again.
 use super::settings::Settings;
+use crate::answers::Made;
 use crate::calls::Calls;
 use crate::model::{Kind, Tally};
 use crate::random::Random;
 use crate::reference::image::map_of;
 use crate::reference::memory::{Permitted, lines};
-use crate::reference::steps::{LIST_WORDS, Step, first_steps, line_writes};
+use crate::reference::steps::{LIST_WORDS, Step, counts, first_steps, line_writes};
 
 /// A call the adversary could make, and what slack is left after it.
 struct Move {
@@ -20,7 +21,9 @@ fn put_or_del(calls: &dyn Calls, image: &[u8], key: u64, kind: Kind) -> Vec<Step
         Kind::Del => calls.del(image, &mut list, key),
         _ => calls.put(image, &mut list, key, key),
     };
-    first_steps(&list, made.steps, image.len()).expect("a list of ours is well formed")
+    let steps = first_steps(&list, made.steps, image.len()).expect("a list of ours is well formed");
+    assert_eq!(made, Made { answer: made.answer, ..Ok(counts(&steps)).into() }, "the counts told are the list's own");
+    steps
 }
 
 fn take(calls: &dyn Calls, from: &Move, kind: Kind, key: u64, random: &mut Random) -> Option<Move> {
@@ -82,6 +85,8 @@ pub fn wear_out(calls: &dyn Calls, settings: &Settings) {
                 least_late = least_late.min(at.tally.slack());
             }
         }
+        let Tally { inserts, deletes, cuts, .. } = at.tally;
+        assert!(inserts > 14 && deletes > 0 && cuts > 0, "the adversary could call: {:?}", at.tally);
         least = least.min(at.tally.least_slack());
     }
     settings.say(&format!("least slack of demand 3: {least}, and {least_late} after the first hundred calls"));

@@ -154,7 +154,7 @@ pub fn settled_by_an_earlier_write_back(calls: &dyn Calls, _: &Settings) {
     let steps = [Step::WriteBack { line: 0 }, Step::Store { place: 8, value: 3 }, Step::Fence];
     let list: Vec<u64> = steps.into_iter().flat_map(Step::words).collect();
     let mut image = vec![0; 256];
-    assert_eq!(calls.cut(&mut image, &list, 3, &[0; 4]), 10);
+    assert_eq!(calls.cut(&mut image, &list, 3, &[0; 4]), 10, "the store is settled");
     assert_eq!(calls.cut(&mut image, &list, 2, &[0; 4]), 0, "before the fence nothing is settled");
     assert_eq!(image, [0; 256]);
     assert_eq!(calls.cut(&mut image, &list, 3, &[1, 0, 0, 0]), 0);

@@ -3,32 +3,36 @@ use super::alike::write_leaf;
 use super::run::Run;
 use super::settings::Settings;
 use super::universe::Universe;
+use crate::answers::{Found, Listed, Made, Recovered, Refusal};
 use crate::calls::Calls;
 use crate::random::Random;
 use crate::reference::image::{Chained, Clause, blocks, broken, map_of, sound_chain};
 use crate::reference::leaf::{Leaf, sibling_place};
 use crate::reference::lists::{Entry, fill};
 
-/// All calls that judge, on one image. Where it is not sound each answers 3 and leaves its buffers.
+/// All calls that judge, on one image. Where it is not sound each answers 3, tells 0 and leaves its buffers.
 fn judge(calls: &dyn Calls, image: &[u8], key: u64) {
-    let sound = broken(image).is_empty();
     let mut list = [9; 113];
-    let answers = [
-        calls.find(image, key).answer,
-        calls.put(image, &mut list, key, 1).answer,
-        calls.set(image, &mut list, key, 2).answer,
-        calls.del(image, &mut list, key).answer,
-    ];
+    let found = calls.find(image, key);
+    let made =
+        [calls.put(image, &mut list, key, 1), calls.set(image, &mut list, key, 2), calls.del(image, &mut list, key)];
     let (mut keys, mut values) = ([9; 60], [9; 61]);
     let (mut smallest, mut numbers) = (vec![9; blocks(image)], vec![9; blocks(image) + 1]);
     let listed = calls.listing(image, key, &mut keys, &mut values);
     let recovered = calls.recovery(image, &mut smallest, &mut numbers);
-    if sound {
-        assert_eq!((listed.answer, recovered.answer), (0, 0), "a sound image is read");
-        assert!(!answers.contains(&3), "a sound image is taken");
+    if let Some(entries) = map_of(image) {
+        let value = entries.iter().find(|entry| entry.0 == key).map(|entry| entry.1);
+        let count = entries.iter().filter(|entry| entry.0 >= key).count().min(keys.len());
+        assert_eq!(found, value.ok_or(Refusal::KeyAbsent).into(), "find in a sound image");
+        assert_eq!(listed, Listed { answer: 0, count: count as u64 }, "listing of a sound image");
+        assert_eq!((recovered.answer, recovered.entries), (0, entries.len() as u64), "recovery of a sound image");
+        let fits: [&[u64]; 3] = if value.is_some() { [&[4], &[0], &[0]] } else { [&[0, 6], &[5], &[5]] };
+        assert!(made.iter().zip(fits).all(|(made, fits)| fits.contains(&made.answer)), "changes of a sound image");
     } else {
-        assert_eq!(answers, [3; 4]);
-        assert_eq!((listed.answer, listed.count, recovered.answer, recovered.entries), (3, 0, 3, 0));
+        assert_eq!(found, Found { answer: 3, value: 0 }, "find in an image that is not sound");
+        assert_eq!(made, [Made { answer: 3, ..Made::default() }; 3], "changes of an image that is not sound");
+        assert_eq!(listed, Listed { answer: 3, count: 0 }, "listing of an image that is not sound");
+        assert_eq!(recovered, Recovered { answer: 3, leaves: 0, entries: 0 }, "recovery of an image that is not sound");
         let mut words = list.iter().chain(&keys).chain(&values).chain(&smallest).chain(&numbers);
         assert!(words.all(|&word| word == 9), "a refusal changes no buffer");
     }

@@ -3,7 +3,7 @@ use super::cuts::some_arrivals;
 use super::settings::Settings;
 use crate::calls::Calls;
 use crate::random::Random;
-use crate::reference::memory::{Permitted, lines};
+use crate::reference::memory::{self, Permitted, lines};
 use crate::reference::steps::{Step, first_steps};
 
 /// A well-formed step, crowded on few lines so that stores, write-backs and fences meet.
@@ -58,30 +58,48 @@ fn run_then_cut(calls: &dyn Calls, image: &[u8], list: &[u64], n: u64, random: &
     let run_answer = calls.run(&mut run, list, n);
     let Some(steps) = first_steps(list, n, image.len()) else {
         let mut cut = image.to_vec();
-        assert_eq!((run_answer, &run[..]), (7, image));
-        assert_eq!(calls.cut(&mut cut, list, n, &vec![0; lines(image)]), 7);
-        assert_eq!(cut, image);
+        assert_eq!(run_answer, 7, "a run of malformed steps");
+        assert_eq!(calls.cut(&mut cut, list, n, &vec![0; lines(image)]), 7, "a cut of malformed steps");
+        assert!(run == image && cut == image, "a refusal changes no buffer");
         return (7, 7);
     };
-    assert_eq!(run_answer, 0);
+    assert_eq!(run_answer, 0, "a run of well-formed steps");
     let permitted = Permitted::after(&steps, lines(image));
+    assert!(run == line_by_line(image, &steps, &permitted.made), "a run makes all stores, in order");
     let mut whole = image.to_vec();
     assert_eq!(calls.cut(&mut whole, list, n, &permitted.made), 0);
-    assert_eq!(whole, run, "all stores arrived: as the processor sees it");
-    (0, some_cut(calls, image, list, n, &permitted, random))
+    assert!(whole == run, "all stores arrived: as the processor sees it");
+    (0, some_cut(calls, image, list, &steps, random))
+}
+
+/// "After a cut a line holds its start plus some first few of its stores."
+fn line_by_line(image: &[u8], steps: &[Step], arrivals: &[u64]) -> Vec<u8> {
+    let mut after = image.to_vec();
+    for (line, &arrived) in arrivals.iter().enumerate().filter(|&(_, &arrived)| arrived > 0) {
+        let its_store = |step: &&Step| matches!(step, Step::Store { place, .. } if place / 64 == line);
+        let first_few: Vec<Step> = steps.iter().filter(its_store).take(arrived as usize).copied().collect();
+        memory::run(&mut after, &first_few);
+    }
+    after
 }
 
 /// A cut that is permitted, or just outside at one line.
-fn some_cut(calls: &dyn Calls, image: &[u8], list: &[u64], n: u64, permitted: &Permitted, random: &mut Random) -> u64 {
-    let mut arrivals = some_arrivals(permitted, random);
+fn some_cut(calls: &dyn Calls, image: &[u8], list: &[u64], steps: &[Step], random: &mut Random) -> u64 {
+    let permitted = Permitted::after(steps, lines(image));
+    let mut arrivals = some_arrivals(&permitted, random);
     if random.one_in(3) {
         let line = random.index(arrivals.len());
         let below = permitted.settled[line].wrapping_sub(1);
         arrivals[line] = random.pick(&[below, permitted.made[line] + 1, u64::MAX]);
     }
     let mut cut = image.to_vec();
-    let answer = calls.cut(&mut cut, list, n, &arrivals);
-    assert_eq!(answer, if permitted.allows(&arrivals) { 0 } else { 10 });
-    assert!(answer == 0 || cut == image, "a refusal changes no buffer");
+    let answer = calls.cut(&mut cut, list, steps.len() as u64, &arrivals);
+    if permitted.allows(&arrivals) {
+        assert_eq!(answer, 0, "a permitted cut");
+        assert!(cut == line_by_line(image, steps, &arrivals), "a cut makes the first few stores of each line");
+    } else {
+        assert_eq!(answer, 10, "a cut that is not permitted");
+        assert!(cut == image, "a refusal changes no buffer");
+    }
     answer
 }

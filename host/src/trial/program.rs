@@ -49,15 +49,17 @@ const MALFORMED_LINES: [&[u8]; 33] = [
 ];
 
 pub fn example(program: Program) {
-    assert_eq!(program(EXAMPLE_INPUT.replace(' ', "\t").as_bytes()), EXAMPLE_OUTPUT.replace(' ', "\t"));
+    let output = program(EXAMPLE_INPUT.replace(' ', "\t").as_bytes());
+    assert_eq!(output, EXAMPLE_OUTPUT.replace(' ', "\t"), "document 01's example");
 }
 
-/// Each malformed line alone, and between two that are not: it changes nothing and the next is read.
+/// Each malformed line alone, and among others: it changes nothing, and the next is read.
 pub fn malformed_lines(program: Program) {
     for line in MALFORMED_LINES {
-        assert_eq!(program(&[line, b"\n"].concat()), MALFORMED, "{line:?}");
+        let shown = line.escape_ascii();
+        assert_eq!(program(&[line, b"\n"].concat()), MALFORMED, "'{shown}' alone");
         let among = [b"put\t1\t2\n", line, b"\nget\t1\nlist\n"].concat();
-        assert_eq!(program(&among), format!("0\t5\t1\t3\n{MALFORMED}0\t2\n1\t2\n"), "{line:?} between two others");
+        assert_eq!(program(&among), format!("0\t5\t1\t3\n{MALFORMED}0\t2\n1\t2\n"), "'{shown}' among others");
     }
 }
 
@@ -65,9 +67,9 @@ pub fn malformed_lines(program: Program) {
 pub fn input_bounds(program: Program) {
     assert_eq!(program(b""), "");
     assert_eq!(program(b"\n"), MALFORMED);
-    assert_eq!(program(b"get\t0"), "5\t0\n");
+    assert_eq!(program(b"get\t0"), "5\t0\n", "no last line end");
     assert_eq!(program(b"put\t18446744073709551615\t18446744073709551615"), "0\t5\t1\t3\n");
     assert_eq!(program(&[b'\n'; MOST_INPUT]), MALFORMED.repeat(MOST_INPUT));
-    assert_eq!(program(&[b'\n'; MOST_INPUT + 1]), MALFORMED);
+    assert_eq!(program(&[b'\n'; MOST_INPUT + 1]), MALFORMED, "one byte too many");
     assert_eq!(program(&[b'0'; MOST_INPUT]), MALFORMED);
 }

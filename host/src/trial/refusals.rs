@@ -98,6 +98,7 @@ fn reads(calls: &dyn Calls, scene: &Scene, key: u64, present: bool) {
         let expected = first(&[(1, bad_length), (3, unsound)]);
         let count = u64::from(expected == 0 && present && keys_len.min(values_len) > 0);
         assert_eq!((listed.answer, listed.count), (expected, count), "listing");
+        assert!(count == 0 || (keys[0], values[0]) == (key, 100 * key), "listing's entry");
         assert!(keys[count as usize..].iter().all(|&word| word == 8), "keys past the count stay");
         assert!(values[count as usize..].iter().all(|&word| word == 9), "values past the count stay");
     }
@@ -128,7 +129,7 @@ fn recovery(calls: &dyn Calls, scene: &Scene, short: usize) {
     let (mut smallest, mut numbers) = (vec![8; blocks - (short & 1)], vec![9; blocks - (short >> 1)]);
     let recovered = calls.recovery(image, &mut smallest, &mut numbers);
     let expected = first(&[(1, bad_length), (8, short != 0), (3, unsound)]);
-    assert_eq!(recovered.answer, expected, "recovery");
+    assert_eq!(recovered.answer, expected, "recovery's answer");
     if expected != 0 {
         assert_eq!((recovered.leaves, recovered.entries), (0, 0), "a refusal tells 0 for every count");
         assert!(smallest.iter().all(|&word| word == 8) && numbers.iter().all(|&word| word == 9));
@@ -194,7 +195,7 @@ fn refuse_or_take(calls: &dyn Calls, bytes: usize, list: &[u64], n: u64, bad_len
     let left = |answer: u64| if answer == 0 { &after } else { &image };
     let mut run = image.clone();
     assert_eq!(calls.run(&mut run, list, n), expected, "run of {n} from {list:?} over {bytes} bytes");
-    assert_eq!(run, *left(expected));
+    assert_eq!(run, *left(expected), "what a run leaves");
     let arrivals: [(&[u64], bool); 8] = [
         (&[0, 0, 0, 1], false),
         (&[0, 0, 0, 0], true),
@@ -209,6 +210,6 @@ fn refuse_or_take(calls: &dyn Calls, bytes: usize, list: &[u64], n: u64, bad_len
         let expected = first(&[(1, bad_length), (7, bad_steps), (10, bad_arrivals)]);
         let mut cut = image.clone();
         assert_eq!(calls.cut(&mut cut, list, n, arrivals), expected, "cut of {n} with {arrivals:?}");
-        assert_eq!(cut, *left(expected));
+        assert_eq!(cut, *left(expected), "what a cut leaves");
     }
 }

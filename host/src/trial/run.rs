@@ -8,6 +8,7 @@ use crate::calls::Calls;
 use crate::model::{Kind, Map, Tally};
 use crate::random::Random;
 use crate::reference::image::{Chained, entries, sound_chain, target};
+use crate::reference::leaf::{Leaf, SLOTS, sibling_place};
 use crate::reference::memory::{Permitted, lines};
 use crate::reference::steps::{LIST_WORDS, Step, counts, first_steps, line_writes};
 
@@ -18,6 +19,8 @@ pub struct Met {
     pub emptied: u64,
     pub freed: u64,
     pub taken_again: u64,
+    /// Blocks taken while a higher one was chained.
+    pub taken_below: u64,
     pub splits: u64,
     pub cut_images: u64,
 }
@@ -39,6 +42,8 @@ pub struct Run<'a> {
     pub tally: Tally,
     phase: Phase,
     left_in_phase: u64,
+    /// From here on neighbours are taken away.
+    thinning: u64,
     chained: Vec<bool>,
     ever_freed: Vec<bool>,
     pub met: Met,
@@ -58,6 +63,7 @@ impl<'a> Run<'a> {
             tally: Tally::default(),
             phase: Phase::Filling,
             left_in_phase: 30 * blocks as u64,
+            thinning: 0,
             chained: (0..blocks).map(|block| block == 0).collect(),
             ever_freed: vec![false; blocks],
             met: Met::default(),
@@ -107,7 +113,16 @@ impl<'a> Run<'a> {
         if kind == Kind::Put || self.random.one_in(6) {
             return any;
         }
-        self.map.from(any).next().or(self.map.from(0).next()).map_or(any, |(key, _)| key)
+        let from = if kind == Kind::Del && self.phase == Phase::Mixing { self.thinned(any) } else { any };
+        self.map.from(from).next().or(self.map.from(0).next()).map_or(any, |(key, _)| key)
+    }
+
+    /// Dels of neighbours empty a leaf while others are full, so that its block is taken again below the highest.
+    fn thinned(&mut self, any: u64) -> u64 {
+        if self.random.one_in(40) {
+            self.thinning = any;
+        }
+        self.thinning
     }
 
     /// Filling and draining by turns, with a mixed phase before every second draining, which goes on until all is gone.
@@ -148,7 +163,8 @@ impl<'a> Run<'a> {
         let room = keys.len().min(values.len());
         let expected: Vec<(u64, u64)> = self.map.from(from).take(room).collect();
         assert_eq!((listed.answer, listed.count), (0, expected.len() as u64), "listing from {from}");
-        assert!(expected.iter().copied().eq(keys.iter().copied().zip(values.iter().copied()).take(expected.len())));
+        let got = keys.iter().copied().zip(values.iter().copied()).take(expected.len());
+        assert!(expected.iter().copied().eq(got), "listing from {from}: keys and values, rising");
         assert_eq!(keys[expected.len()..], keys_before[expected.len()..], "keys past the count stay");
         assert_eq!(values[expected.len()..], values_before[expected.len()..], "values past the count stay");
     }
@@ -161,12 +177,13 @@ impl<'a> Run<'a> {
         let recovered = self.calls.recovery(&self.image, &mut smallest, &mut numbers);
         let accepted = smallest_len >= blocks && numbers_len >= blocks;
         let (answer, leaves, entries) = if accepted { (0, chain.len(), self.map.len()) } else { (8, 0, 0) };
-        assert_eq!(recovered, Recovered { answer, leaves: leaves as u64, entries: entries as u64 });
+        assert_eq!(recovered, Recovered { answer, leaves: leaves as u64, entries: entries as u64 }, "recovery");
         for (at, chained) in chain.iter().enumerate().take(leaves) {
             let expected = chained.leaf.smallest().unwrap_or(0);
             assert_eq!((smallest[at], numbers[at]), (expected, chained.block as u64), "recovery's leaf {at}");
         }
-        assert!(smallest[leaves..].iter().all(|&word| word == 3) && numbers[leaves..].iter().all(|&word| word == 5));
+        let past = smallest[leaves..].iter().all(|&word| word == 3) && numbers[leaves..].iter().all(|&word| word == 5);
+        assert!(past, "entries past recovery's leaves stay");
     }
 
     /// A buffer of random length, at most so long, with random words.
@@ -188,7 +205,7 @@ impl<'a> Run<'a> {
         };
         let written = 2 * made.steps as usize;
         assert_eq!(list[written..], list_before[written..], "words past the list stay");
-        assert_eq!(made.answer, self.expected_answer(kind, key), "{kind:?} {key}");
+        assert_eq!(made.answer, self.expected_answer(kind, key), "the answer of {kind:?} {key}");
         self.met.refused_full += u64::from(made.answer == 6);
         if made.answer == 0 {
             self.take(kind, key, value, &list, made);
@@ -221,6 +238,9 @@ impl<'a> Run<'a> {
     fn take(&mut self, kind: Kind, key: u64, value: u64, list: &[u64], made: Made) {
         let steps = first_steps(list, made.steps, self.image.len()).expect("a list of ours is well formed");
         assert_eq!(made, Ok(counts(&steps)).into(), "the counts told are the list's own");
+        if kind != Kind::Put {
+            three_steps(kind, &self.image, &steps);
+        }
         let before: Vec<(u64, u64)> = self.map.from(0).collect();
         if self.random.one_in(self.cuts_one_in) {
             self.try_all_cuts(kind, key, value, list, made);
@@ -263,13 +283,29 @@ impl<'a> Run<'a> {
         for chained in chain {
             now[chained.block] = true;
         }
+        let highest = self.chained.iter().rposition(|&chained| chained).expect("block 0 is always chained");
         for (block, (was, is)) in self.chained.iter().copied().zip(now.iter().copied()).enumerate() {
             self.met.splits += u64::from(!was && is);
             self.met.taken_again += u64::from(!was && is && self.ever_freed[block]);
+            self.met.taken_below += u64::from(!was && is && block < highest);
             self.met.freed += u64::from(was && !is);
             self.ever_freed[block] |= was && !is;
         }
         self.chained = now;
+    }
+}
+
+/// Set and del: a store, the write-back of its line, a fence. A del clears one slot's bit and keeps the rest of word 0, or
+/// stores a sibling.
+fn three_steps(kind: Kind, image: &[u8], steps: &[Step]) {
+    let [Step::Store { place, value }, Step::WriteBack { line }, Step::Fence] = *steps else {
+        panic!("{kind:?} has three steps, not {steps:?}")
+    };
+    assert_eq!(line, place / 64, "the line of the store is written back");
+    if kind == Kind::Del && place % 256 < sibling_place(0) {
+        let word_0 = Leaf::read(image, place / 256).words[0];
+        let cleared = (0..SLOTS).any(|slot| value == word_0 & !(1 << slot) && value != word_0);
+        assert!(place % 256 == 0 && cleared, "a del clears one bit and keeps the fingerprints");
     }
 }
 

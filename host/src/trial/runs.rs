@@ -29,6 +29,7 @@ impl Sum {
         self.met.emptied += run.met.emptied;
         self.met.freed += run.met.freed;
         self.met.taken_again += run.met.taken_again;
+        self.met.taken_below += run.met.taken_below;
         self.met.splits += run.met.splits;
         self.met.cut_images += run.met.cut_images;
         let slack = run.tally.least_slack();
@@ -37,10 +38,10 @@ impl Sum {
 
     /// Says what was met, and fails where something was not.
     fn close(&self, settings: &Settings) {
-        let Met { refused_full, emptied, freed, taken_again, splits, cut_images } = self.met;
+        let Met { refused_full, emptied, freed, taken_again, taken_below, splits, cut_images } = self.met;
         settings.say(&format!(
-            "{} calls, {splits} splits, {freed} blocks freed, {taken_again} taken again, {refused_full} times full, \
-             {emptied} times emptied, {cut_images} cut images, least slack of demand 3: {}",
+            "{} calls, {splits} splits, {freed} blocks freed, {taken_again} taken again, {taken_below} below another, \
+             {refused_full} times full, {emptied} times emptied, {cut_images} cut images, least slack of demand 3: {}",
             self.calls,
             self.least_slack.expect("there were runs"),
         ));
@@ -60,7 +61,7 @@ fn universes(blocks: usize) -> [Universe; 5] {
     ]
 }
 
-fn trial(calls: &dyn Calls, settings: &Settings, plans: &[Plan]) {
+fn trial(calls: &dyn Calls, settings: &Settings, plans: &[Plan]) -> Met {
     let total = plans.iter().map(|plan| plan.calls).sum();
     let mut sum = Sum::default();
     for (part, plan) in plans.iter().enumerate() {
@@ -73,6 +74,7 @@ fn trial(calls: &dyn Calls, settings: &Settings, plans: &[Plan]) {
         sum.add(plan.calls, &run);
     }
     sum.close(settings);
+    sum.met
 }
 
 fn plans(blocks: &[usize], calls: u64, cuts_one_in: u64, depth: Depth) -> Vec<Plan> {
@@ -82,12 +84,14 @@ fn plans(blocks: &[usize], calls: u64, cuts_one_in: u64, depth: Depth) -> Vec<Pl
 
 pub fn few_blocks(calls: &dyn Calls, settings: &Settings) {
     let depth = Depth { most: 100, sample: 8 };
-    trial(calls, settings, &plans(&[1, 2, 3, 4, 5, 6, 7, 8], settings.times(8_000), 100, depth));
+    let met = trial(calls, settings, &plans(&[1, 2, 3, 4, 5, 6, 7, 8], settings.times(8_000), 100, depth));
+    assert!(met.taken_below > 0, "freed blocks are taken below others");
 }
 
 pub fn some_blocks(calls: &dyn Calls, settings: &Settings) {
     let depth = Depth { most: 30, sample: 4 };
-    trial(calls, settings, &plans(&[9, 16, 33, 65], settings.times(6_000), 400, depth));
+    let met = trial(calls, settings, &plans(&[9, 16, 33, 65], settings.times(6_000), 400, depth));
+    assert!(met.taken_below > 0, "freed blocks are taken below others");
 }
 
 /// Each long enough to fill its blocks and to empty them.

@@ -14,6 +14,7 @@ pub struct Settings {
     length: u64,
     started: Instant,
     last_line: Cell<Instant>,
+    quiet: bool,
 }
 
 fn from_environment(name: &str, default: u64) -> u64 {
@@ -28,7 +29,13 @@ impl Settings {
         let (seed, length) =
             (from_environment("STRINGHUT_SEED", DEFAULT_SEED), from_environment("STRINGHUT_LENGTH", 1));
         let now = Instant::now();
-        Settings { name, seed, length, started: now, last_line: Cell::new(now) }
+        Settings { name, seed, length, started: now, last_line: Cell::new(now), quiet: false }
+    }
+
+    /// Without a line, for a trial that is to fail.
+    pub fn quiet(mut self) -> Settings {
+        self.quiet = true;
+        self
     }
 
     /// A generator of its own for each trial and each part of it.
@@ -51,7 +58,9 @@ impl Settings {
 
     /// Straight to standard error: the test harness would swallow a printed line.
     pub fn say(&self, line: &str) {
-        writeln!(std::io::stderr(), "  {}: {line}", self.name).expect("standard error takes a line");
+        if !self.quiet {
+            writeln!(std::io::stderr(), "  {}: {line}", self.name).expect("standard error takes a line");
+        }
     }
 }
 

@@ -1,6 +1,6 @@
 /* The stack that each call takes, by painting: a call runs on a stack of its own that was filled with one byte, and the lowest
  * byte that is another afterwards is how deep it went. Prints the deepest of each call over images that are filled, split,
- * thinned out and damaged; returns 0 if none is deeper than HUT_STACK_BYTES. */
+ * thinned out and damaged; returns 0 if each was made and none is deeper than HUT_STACK_BYTES. */
 #define _GNU_SOURCE
 #include <inttypes.h>
 #include <stdio.h>
@@ -116,7 +116,7 @@ static void fill(size_t blocks, uint64_t factor) {
 }
 
 int main(void) {
-    size_t most = 0;
+    int fits = 1;
     fill(1, 1);
     fill(4, ~UINT64_C(0));
     fill(8, UINT64_C(0x9E3779B97F4A7C15));
@@ -124,8 +124,8 @@ int main(void) {
     fill(HUT_MOST_BLOCKS, UINT64_C(0x9E3779B97F4A7C15));
     for (int which = 0; which < CALLS; which++) {
         printf("%-9s %5zu\n", names[which], deepest[which]);
-        if (deepest[which] > most) most = deepest[which];
+        fits = fits && deepest[which] > 0 && deepest[which] <= HUT_STACK_BYTES;
     }
     printf("%-9s %5d\n", "allowed", HUT_STACK_BYTES);
-    return most > 0 && most <= HUT_STACK_BYTES ? 0 : 1;
+    return fits ? 0 : 1;
 }
