@@ -143,6 +143,10 @@ caught! { alone;
         put = |image, list, key, value| put_with(six_more_line_writes, image, list, key, value);
     wear_without_a_put by adversary::wear_out, "the adversary could call":
         put = |image, list, key, value| put_unless(|_, _| true, image, list, key, value);
+    put_that_clears_a_moved_fingerprint by cases::p2_p3, "the header after the first moves":
+        put = |image, list, key, value| put_with(|steps| cleared_in_word_0(steps, 8..=14), image, list, key, value);
+    split_that_clears_a_moved_fingerprint by cases::p4, "the moved entries' fingerprints are kept":
+        put = |image, list, key, value| put_with(|steps| cleared_in_word_0(steps, 42..=42), image, list, key, value);
     put_without_moving by cases::p2_p3, "put 4":
         put = |image, list, key, value| edited(image, list, |list| Reference.put(image, list, key, value), |steps| {
             *steps = traditional::put_steps(image, Packing::FromTheEnd, key, value).expect("accepted");

@@ -44,6 +44,11 @@ pub fn p2_p3(calls: &dyn Calls, _: &Settings) {
         let made = put(calls, &mut image, key);
         assert_eq!(made, expected, "put {key}");
         line_writes += made.line_writes;
+        if key == 4 {
+            // 4 in slot 3, 1 to 3 moved to slots 4 to 6; the fingerprints of slots 0 to 2 are kept.
+            let header = [u64::from_le_bytes([0b0111_1000, 0, 1, 2, 3, 4, 1, 2]), 3];
+            assert_eq!(Leaf::read(&image, 0).words[..2], header, "the header after the first moves");
+        }
     }
     assert_eq!(line_writes, 17);
     assert_eq!(word_0(&image) & 0xFFFF, 0x3FFF, "full, lock and alt 0");
@@ -52,11 +57,15 @@ pub fn p2_p3(calls: &dyn Calls, _: &Settings) {
 /// Then put 15: 42 steps, 6 line writes, 34 word writes; 8 to 14 in slots 7 to 13, 15 in slot 6.
 pub fn p4(calls: &dyn Calls, _: &Settings) {
     let mut image = image_with(calls, 4, 1..=14);
+    let full = Leaf::read(&image, 0);
     assert_eq!(put(calls, &mut image, 15), made(42, 6, 34));
+    let old = Leaf::read(&image, 0);
+    assert!((old.words[0] ^ full.words[0]) < 1 << 16, "the moved entries' fingerprints are kept");
+    assert_eq!(old.words[1..30], full.words[1..30], "all but bit array and siblings is kept");
     let new = Leaf::read(&image, 1);
     assert_eq!(new.occupied_slots(), [6, 7, 8, 9, 10, 11, 12, 13]);
     assert_eq!(new.keys(), [15, 8, 9, 10, 11, 12, 13, 14]);
-    let mut left = Leaf::read(&image, 0).keys();
+    let mut left = old.keys();
     left.sort();
     assert_eq!(left, [1, 2, 3, 4, 5, 6, 7]);
 }

@@ -1,4 +1,5 @@
 //! Implementations that are wrong in one way each: the reference with one call, or one part of a call, put in its place.
+use std::ops::RangeInclusive;
 use stringhut::answers::{Found, Listed, Made, Recovered};
 use stringhut::reference::Reference;
 use stringhut::reference::image::{sound_chain, target};
@@ -234,5 +235,17 @@ pub fn six_more_line_writes(steps: &mut Vec<Step>) {
     let at = steps.len() - 2;
     if steps.len() <= 50 {
         steps.splice(at..at, [steps[at]; 6]);
+    }
+}
+
+/// In lists of so many steps: the fingerprints of the slots that the last store of word 0 leaves vacant are cleared.
+pub fn cleared_in_word_0(steps: &mut [Step], lengths: RangeInclusive<usize>) {
+    let word_0 = |step: &&mut Step| matches!(step, Step::Store { place, .. } if place % 256 == 0);
+    if !lengths.contains(&steps.len()) {
+        return;
+    }
+    if let Some(Step::Store { value, .. }) = steps.iter_mut().rev().find(word_0) {
+        let vacant = (0..6).filter(|slot| *value >> slot & 1 == 0);
+        *value &= vacant.fold(u64::MAX, |kept, slot| kept & !(0xFF << (16 + 8 * slot)));
     }
 }
