@@ -120,8 +120,7 @@ start = record {
   leaves = 0;
   entries = 0;
   last = 0;
-  met = upd
-      (λ b. false) 0 true;
+  met = upd (λ b. false) 0 true;
 }
 
 unfoldable pub surveyed : (ℕ → Leaf) → ℕ → ℕ → State
