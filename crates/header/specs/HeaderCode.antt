@@ -1,12 +1,17 @@
 -- A header is held as two words: a field of the whole is a field of one of the two, and the methods, which work on one word at a
 -- time, compute what `Header` says.
+use mathlib.Core.List.{List}
 use mathlib.Core.Path.{_≡_, sym, ap, _∙_}
 use Prim.Native.Nat.{ℕ, suc, _+_, _-_, _*_, _/_, _%_, _^_, _≤_, _<_}
-use native.Mathlib.Nat.{mul-assoc, mul-comm, mod-eq-of-lt}
+use native.Mathlib.Nat.{mul-assoc, mul-comm, mod-eq-of-lt, pow-suc, div-div-eq-div-mul}
+use native.Mathlib.Numerals.{add-one}
 use native.Mathlib.Omega.{arith}
 use lib.Bits.{bitXor, xor-zero-l, xor-zero-r}
 use lib.Dec.{eqb, lit<, lit≤}
+use lib.ListN.{getD}
 use lib.Pow.{pow-add, high, low, shr-shr}
+use Rattle.words.specs.Words.{wordAt}
+use Rattle.words.specs.WordLaws.{Bytes, byte-word}
 use Rattle.header.specs.Fields.{field, patched}
 use Rattle.header.specs.FieldLaws.{field-lt, field-le, field-of-low, patched-code, patched-lt}
 use Rattle.header.specs.Header.{whole, isOccupied, isLocked, altIn, fingerprintIn, marked, cleared, flipped}
@@ -101,6 +106,14 @@ unfolding xorOfBytes
 mix-step i mix rest h =
     let e : 8 - i ≡ suc (8 - (i + 1)) = omega arith in
     xor-assoc mix (rest % 256) (xorOfBytes (8 - (i + 1)) (rest / 256)) ∙ ap (λ (n : ℕ). bitXor mix (xorOfBytes n rest)) (sym e)
+
+-- and where the bytes are taken as they stand in a list
+pub mix-byte : (l : List ℕ) (p i mix b : ℕ) → Bytes l → i < 8 → b ≡ getD l (p + i) 0
+    → bitXor (bitXor mix b) (xorOfBytes (8 - (i + 1)) (wordAt l p / 256 ^ (i + 1)))
+    ≡ bitXor mix (xorOfBytes (8 - i) (wordAt l p / 256 ^ i))
+mix-byte l p i mix b h lt e =
+    let q : 256 ^ (i + 1) ≡ 256 ^ i * 256 = ap (λ (n : ℕ). 256 ^ n) (add-one i) ∙ pow-suc 256 i in
+    rw (e, ← byte-word l p i h lt, q, ← div-div-eq-div-mul (wordAt l p) (256 ^ i) 256) (mix-step i mix (wordAt l p / 256 ^ i) lt)
 
 pub mix-end : (mix rest i : ℕ) → 8 ≤ i → bitXor mix (xorOfBytes (8 - i) rest) ≡ mix
 unfolding xorOfBytes

@@ -7,6 +7,7 @@ use crate::bits::replace;
 ghost use mathlib.Core.Path.{_≡_};
 ghost use Prim.Native.Nat.{_+_, _≤_, _<_};
 ghost use lib.ListN.{length};
+ghost use Rattle.words.specs.Words.{wordAt};
 ghost use Rattle.header.specs.Header.{headAt, bitsOf, isOccupied, fingerprintIn, isLocked, altIn};
 ghost use Rattle.header.specs.Header.{marked, cleared, flipped, fingerprintOf};
 
@@ -104,6 +105,18 @@ pub fn fingerprint_of(key: u64) -> u8
     for _ in 0..8usize {
         mix = mix ^ ((rest % 256) as u8);
         rest = rest / 256;
+    }
+    mix
+}
+
+// The fingerprint of the key at a place, mixed from its bytes where they stand: the compiler takes all eight at once.
+pub fn fingerprint_at(bytes: &[u8], place: usize) -> u8
+    requires { ⌜ place + 8 ≤ length (now bytes) ⌝ }
+    ensures { λ r. ⌜ r ≡ fingerprintOf (wordAt (now (bytes .entry)) place) ⌝ }
+{
+    let mut mix: u8 = 0;
+    for i in 0..8usize {
+        mix = mix ^ bytes[place + i];
     }
     mix
 }

@@ -3,13 +3,13 @@
 use crate::place::Leaf;
 use crate::search::key_at;
 use header::Header;
-use header::fingerprint_of;
+use header::fingerprint_at;
 ghost use mathlib.Core.Path.{_≡_};
 ghost use mathlib.Core.Bool.{false, cond};
 ghost use Prim.Native.Nat.{_+_, _%_, _≤_, _<_, min, max};
 ghost use lib.Dec.{eqb};
 ghost use lib.ListN.{length, getD, set};
-ghost use Rattle.header.specs.Header.{headAt, bitsOf};
+ghost use Rattle.header.specs.Header.{headAt, bitsOf, fingerprintOf};
 ghost use Rattle.leaf.specs.Leaf.{leafIn};
 ghost use Rattle.leaf.specs.Tally.{Tells, shares, twinAt, twins};
 ghost use Rattle.leaf.specs.TallySteps.{noted, passed, Few, Hits, TellsTo, Stamped};
@@ -49,6 +49,14 @@ fn print_at(leaf: &[u8], s: usize) -> u8
     leaf[2 + s]
 }
 
+// The fingerprint that the key of slot s has, whatever stands in the header.
+fn own_print(leaf: &[u8], s: usize) -> u8
+    requires { ⌜ (256 ≤ length (now leaf)) × (s < 14) ⌝ }
+    ensures { λ r. ⌜ r ≡ fingerprintOf (leafIn (now (leaf .entry)) .key s) ⌝ }
+{
+    fingerprint_at(leaf, Leaf::key_place(s))
+}
+
 // Stamps a fingerprint with the leaf's number; 1 where it bore it already.
 fn stamp(stamps: &mut [u8], print: u8, number: u8) -> u64
     requires { ⌜ 256 ≤ length (now stamps) ⌝ }
@@ -61,15 +69,14 @@ fn stamp(stamps: &mut [u8], print: u8, number: u8) -> u64
     one_if(old == number)
 }
 
-// The tally with one more occupied slot.
-fn note(t: Tally, print: u8, key: u64, hit: u64) -> Tally
-    requires { ⌜ (Few t) × (hit ≤ 1) ⌝ }
+// The tally with one more occupied slot, whose key has the fingerprint `own`.
+fn note(t: Tally, print: u8, own: u8, key: u64, hit: u64) -> Tally
+    requires { ⌜ (Few t) × (hit ≤ 1) × (own ≡ fingerprintOf key) ⌝ }
     ensures { λ r. ⌜ r ≡ noted print key hit t ⌝ }
 {
-    let g = fingerprint_of(key);
     Tally {
         entries: t.entries + 1,
-        wrong: t.wrong + one_if(print != g),
+        wrong: t.wrong + one_if(print != own),
         least: smaller(t.least, key),
         most: larger(t.most, key),
         hits: 2 * t.hits + hit,
@@ -95,10 +102,11 @@ fn slot(leaf: &[u8], head: Header, s: usize, stamps: &mut [u8], number: u8, t: T
         × (length (now (stamps .exit)) ≡ length (now (stamps .entry))) ⌝ }
 {
     if head.occupied(s) {
+        let own = own_print(leaf, s);
         let key = key_at(leaf, s);
         let print = print_at(leaf, s);
         let hit = stamp(stamps, print, number);
-        return note(t, print, key, hit);
+        return note(t, print, own, key, hit);
     }
     pass_over(t)
 }

@@ -5,10 +5,11 @@ use Rattle.leaf.proofs.tally.note.Tie as tie
 
 returns : tie.Need-returns
 returns c =
-    let f = c .before .before .before .before .before .before in
-    let a = f .before .args in
-    noted-is (a .print) (a .key) (a .hit) (a .t) _ _ _ _ (f .fingerprint-of .ensures)
-    (c .before .before .before .before .one-if .ensures .0)
+    let w = c .before .before .before .before in
+    let st = w .before .before in
+    let a = st .args in
+    noted-is (a .print) (a .key) (a .hit) (a .t) _ _ _ _ (st .pre .2)
+    (w .one-if .ensures .0)
     (c .before .before .smaller .ensures)
     (c .before .larger .ensures)
 
@@ -16,5 +17,5 @@ pub note-spec : {M : Type 1} → statement M
 note-spec =
     tie.close
     (tie.spec
-    (λ c κs. search needs) (λ c. search needs) (λ c κs. search needs) (λ c. search needs) (λ c κs. search needs)
+    (λ c. search needs) (λ c κs. search needs) (λ c. search needs) (λ c κs. search needs)
     (λ c κs. search needs) (λ c. search needs) (λ c. search needs) returns)

@@ -3,6 +3,7 @@ use native.Mathlib.Omega.{arith}
 use mathlib.Core.Path.{refl, sym, ap, _∙_}
 use denote.Ref.{now}
 use lib.ListN.{length, length-set}
+use Rattle.header.specs.Header.{fingerprintOf}
 use Rattle.leaf.specs.Leaf.{leafIn}
 use Rattle.leaf.specs.SearchSteps.{in-occ}
 use Rattle.leaf.specs.TallySteps.{tells-few, tells-taken, tells-vacant, stamped-taken, stamped-vacant}
@@ -11,10 +12,13 @@ use Rattle.leaf.proofs.tally.slot.Tie as tie
 
 note-requires : tie.Need-note-requires
 note-requires c κs =
-    let st = c .before .before .before .before .before .before .before .before .before .before in
+    let m = c .before .before in
+    let k = m .before .before .before in
+    let st = k .before .before .before .before .before .before in
     let a = st .args in (
       tells-few (leafIn (now (a .leaf))) (a .s) (a .t) (omega arith) (st .pre .4),
-      c .before .before .stamp .ensures .2,
+      m .stamp .ensures .2,
+      k .before .own-print .ensures ∙ ap fingerprintOf (sym (k .key-at .ensures)),
     )
 
 pass-over-requires : tie.Need-pass-over-requires
@@ -27,12 +31,12 @@ returns : tie.Need-returns
 returns c =
     let m = c .before .before .before in
     let p = m .before .before in
-    let o = p .before .before .before in
+    let o = p .before .before .before .before in
     let st = o .before .before .before in
     let a = st .args in (
       tells-taken (leafIn (now (a .leaf))) (a .s) (a .number) (now (a .stamps)) (a .t) (st .pre .4)
           (p .print-at .result) (p .before .key-at .result) (m .stamp .result) (c .note .result) (st .pre .5)
-          (sym (o .occupied .ensures ∙ in-occ _ _ (st .pre .2) _ (omega arith)) ∙ p .before .before .if1 .taken)
+          (sym (o .occupied .ensures ∙ in-occ _ _ (st .pre .2) _ (omega arith)) ∙ p .before .before .before .if1 .taken)
           (p .print-at .ensures)
           (p .before .key-at .ensures)
           (m .stamp .ensures .1)
@@ -60,5 +64,5 @@ pub slot-spec : {M : Type 1} → statement M
 slot-spec =
     tie.close
     (tie.spec
-    (λ c κs. search needs) (λ c κs. search needs) (λ c κs. search needs) (λ c κs. search needs) note-requires
+    (λ c κs. search needs) (λ c κs. search needs) (λ c κs. search needs) (λ c κs. search needs) (λ c κs. search needs) note-requires
     (λ c. search needs) returns pass-over-requires returns-2)
