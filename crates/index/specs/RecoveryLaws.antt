@@ -1,95 +1,76 @@
--- One turn of recovery's loop, and each answer, from the tests that led to it.
+-- The notes of recovery's walk written out, and each answer, from the tests that led to it.
 use mathlib.Core.Path.{_≡_, refl, sym, ap, _∙_, subst}
 use mathlib.Core.Bool.{Bool, true, false, cond, not, _||_}
 use mathlib.Core.List.{List, [], _∷_, map}
-use mathlib.Core.Logic.{_≢_}
-use Prim.Native.Nat.{ℕ, suc, _+_, _-_, _≤_, _<_}
+use Prim.Native.Nat.{ℕ, zero, suc, _+_, _-_, _≤_, _<_}
+use native.Mathlib.Decide.{ℕ-discrete, decLt}
 use native.Mathlib.Omega.{arith}
 use borrow.Author.Tests.{ltb-false}
 use lib.Dec.{ltb, eqb}
-use lib.ListN.{length, set}
-use lib.Seq.{take-all}
+use lib.ListN.{length, getD, set, drop, length-set, length-append, length-drop, length-map, List·getD-append}
+use lib.Seq.{getD-set-same, getD-set-other, getD-append-add, getD-drop, ext-getD}
 use Rattle.words.specs.Bools.{by-test, differ}
-use Rattle.leaf.specs.Leaf.{Leaf}
 use Rattle.leaf.specs.Search.{smallestOf}
 use Rattle.steps.specs.Refusals.{badImage, row-given, row-left}
-use Rattle.survey.specs.Walk.{surveyed}
-use Rattle.image.specs.Map.{Entry, entry}
-use Rattle.image.specs.Chain.{All}
-use Rattle.image.specs.ChainSize.{chain-short, chain-near}
+use Rattle.survey.specs.Walk.{start, surveyed, visited, NotedTo, Noted}
+use Rattle.image.specs.ChainSize.{chain-short}
 use Rattle.image.specs.Entries.{listOf, chain-length}
 use Rattle.image.specs.Image.{blocks, leaves}
 use Rattle.image.specs.ImageLaws.{good-length}
-use Rattle.index.specs.Reading.{chainFrom, chainOf, entriesIn, over}
+use Rattle.index.specs.Reading.{chainOf, entriesIn, over}
 use Rattle.index.specs.Reading.{sizes, recoveredAs, Recovery, recoveryIs, isShort, recoveryOf}
 use Rattle.index.specs.SoundTest.{survey-sound, says-yes, says-no, sound-chain}
-use Rattle.index.specs.Filling.{Buffers, buffers, fill, fill-one, fill-whole}
-use Rattle.index.specs.Along.{chain-on, chain-last, chain-over}
+use Rattle.index.specs.Along.{visited-chain}
 use Rattle.index.specs.declared.recovery.Recovered.the-variants.{Leaves, BadImage, ShortBuffer, Unsound}
 
--- what is written of each leaf: its smallest key and its number
-unfoldable pub leadsOf : (ℕ → Leaf) → List ℕ → List Entry
-leadsOf I [] = []
-leadsOf I (b ∷ bs) = entry (smallestOf (I b)) b ∷ leadsOf I bs
+-- ---- the notes written out
 
-module _ (I : ℕ → Leaf) (N i b : ℕ) (ks vs : List ℕ) (whole : Buffers)
-    (so-far : fill N (leadsOf I (chainFrom I (N - i) b)) (buffers i ks vs) ≡ whole) where
-  pub lead-done : N ≤ i → buffers i ks vs ≡ whole
-  unfolding leadsOf fill
-  lead-done h = rw (chain-over I N i b h) at so-far
+-- the first n elements are those of xs, and the others stay
+pub record Copied (n : ℕ) (xs before after : List ℕ) : Type 0 where
+  pub same : length after ≡ length before
+  pub front : (j : ℕ) → j < n → getD after j 0 ≡ getD xs j 0
+  pub back : (j : ℕ) → n ≤ j → getD after j 0 ≡ getD before j 0
 
-  module _ (turn : i < N) (k : ℕ) (key : k ≡ smallestOf (I b)) where
-    abbrev pub after : Buffers
-    after = buffers (i + 1) (set ks i k) (set vs i b)
+pub copied-none : (xs l : List ℕ) → Copied 0 xs l l
+copied-none xs l = record { same = refl; front = λ j b. absurd (omega arith); back = λ j b. refl }
 
-    rest : (bs : List ℕ) → chainFrom I (N - i) b ≡ b ∷ bs → fill N (leadsOf I bs) after ≡ whole
-    unfolding leadsOf
-    rest bs e =
-        rw key (sym (fill-one N (entry (smallestOf (I b)) b) (leadsOf I bs) (buffers i ks vs) turn))
-        ∙ ap (λ (cs : List ℕ). fill N (leadsOf I cs) (buffers i ks vs)) (sym e) ∙ so-far
+pub copied-next : (i v : ℕ) (xs before after : List ℕ) → i < length after → v ≡ getD xs i 0 → Copied i xs before after
+    → Copied (i + 1) xs before (set after i v)
+copied-next i v xs before after b e c = record {
+  same = length-set after i v ∙ c .same;
+  front = λ j h. elim (ℕ-discrete j i) [
+    | yes q ↦ rw q (getD-set-same after i v 0 b ∙ e)
+    | no q ↦ getD-set-other after i j v 0 q ∙ c .front j (omega arith)
+  ];
+  back = λ j h. getD-set-other after i j v 0 (λ q. absurd (omega arith)) ∙ c .back j (omega arith);
+}
 
-    pub lead-next : (c : ℕ) → c ≡ I b .next → c ≢ 0 → fill N (leadsOf I (chainFrom I (N - (i + 1)) c)) after ≡ whole
-    lead-next c e nz = rw e (rest (chainFrom I (N - (i + 1)) (I b .next)) (chain-on I N i b turn (λ z. nz (e ∙ z))))
+getD-map : (f : ℕ → ℕ) (l : List ℕ) (j : ℕ) → j < length l → getD (map f l) j 0 ≡ f (getD l j 0)
+getD-map f [] j h = absurd (omega arith)
+getD-map f (x ∷ l) zero h = refl
+getD-map f (x ∷ l) (suc j) h = getD-map f l j (omega arith)
 
-    pub lead-ends : (c : ℕ) → c ≡ I b .next → c ≡ 0 → after ≡ whole
-    unfolding leadsOf fill
-    lead-ends c e z = rest [] (chain-last I N i b turn (sym e ∙ z))
+-- what that comes to, where ys are these n
+pub copied-over : (n : ℕ) (xs before after ys : List ℕ) → n ≤ length before → length ys ≡ n
+    → ((j : ℕ) → j < n → getD xs j 0 ≡ getD ys j 0) → Copied n xs before after → after ≡ over ys before
+copied-over n xs before after ys h e is c =
+    ext-getD 0 after (over ys before) long (λ j b. elim (decLt j n) [
+      | yes q ↦ c .front j q ∙ is j q ∙ sym (List·getD-append ys rest 0 j (omega arith))
+      | no q ↦ let k : j ≡ length ys + (j - length ys) = omega arith in
+          c .back j (omega arith) ∙ rw k (sym (getD-append-add ys rest (j - length ys) 0 ∙ getD-drop (length ys) before (j - length ys) 0))
+    ])
+  where
+    rest : List ℕ
+    rest = drop (length ys) before
 
-leads-keys : (I : ℕ → Leaf) (bs : List ℕ) → map (λ e. e .key) (leadsOf I bs) ≡ map (λ b. smallestOf (I b)) bs
-unfolding leadsOf
-leads-keys I [] = refl
-leads-keys I (b ∷ bs) = ap (λ (ks : List ℕ). smallestOf (I b) ∷ ks) (leads-keys I bs)
-
-leads-blocks : (I : ℕ → Leaf) (bs : List ℕ) → map (λ e. e .val) (leadsOf I bs) ≡ bs
-unfolding leadsOf
-leads-blocks I [] = refl
-leads-blocks I (b ∷ bs) = ap (λ (cs : List ℕ). b ∷ cs) (leads-blocks I bs)
-
-leads-length : (I : ℕ → Leaf) (bs : List ℕ) → length (leadsOf I bs) ≡ length bs
-unfolding leadsOf
-leads-length I [] = refl
-leads-length I (b ∷ bs) = ap suc (leads-length I bs)
-
--- the buffers after a chain that they have room for
-leads-fill : (I : ℕ → Leaf) (N : ℕ) (bs ks vs : List ℕ) → length bs ≤ N → N ≤ length ks → N ≤ length vs
-    → fill N (leadsOf I bs) (buffers 0 ks vs) ≡ buffers (length bs) (over (map (λ b. smallestOf (I b)) bs) ks) (over bs vs)
-leads-fill I N bs ks vs h hk hv =
-    fill-whole N (leadsOf I bs) ks vs hk hv
-    ∙ rw (take-all N (leadsOf I bs) (omega (arith, leads-length I bs)))
-    (λ i. buffers (leads-length I bs i) (over (leads-keys I bs i) ks) (over (leads-blocks I bs i) vs))
+    long : length after ≡ length (over ys before)
+    long = omega (arith, c .same, length-append ys rest, length-drop (length ys) before)
 
 -- ---- the answers
 
 module _ (l : List ℕ) (fine : badImage (length l) ≡ false) (sound : surveyed (leaves l) (blocks l) 0 .stage ≡ 1) where
   chain-found : chainOf l ≡ (survey-sound l 0 fine sound) .chain
   chain-found = let s = survey-sound l 0 fine sound in sound-chain l (s .chain) fine (s .sound)
-
-  pub all-near : All (λ c. c < blocks l) (chainFrom (leaves l) (blocks l) 0)
-  unfolding chainOf
-  all-near =
-      let s = survey-sound l 0 fine sound in
-      subst (All (λ c. c < blocks l)) (sym chain-found)
-      (chain-near (leaves l) (blocks l) (s .chain) (s .sound) ((good-length l fine) .some))
 
   entries-told : surveyed (leaves l) (blocks l) 0 .entries ≡ length (entriesIn l)
   unfolding entriesIn
@@ -98,10 +79,32 @@ module _ (l : List ℕ) (fine : badImage (length l) ≡ false) (sound : surveyed
       s .notes .entries ∙ sym (chain-length (leaves l) (blocks l) (s .chain) (s .sound))
       ∙ ap (λ (bs : List ℕ). length (listOf (leaves l) bs)) (sym chain-found)
 
-  chain-fits : length (chainOf l) ≤ blocks l
-  chain-fits =
+  leaves-told : surveyed (leaves l) (blocks l) 0 .leaves ≡ length (chainOf l)
+  leaves-told = let s = survey-sound l 0 fine sound in s .notes .leaves ∙ ap length (sym chain-found)
+
+  -- there are no more leaves than blocks, and so room for the notes of all
+  pub leaves-few : (surveyed (leaves l) (blocks l) 0 .leaves ≤ blocks l) × (blocks l ≤ 256)
+  leaves-few =
       let s = survey-sound l 0 fine sound in
-      rw chain-found (chain-short (leaves l) (blocks l) (s .chain) (s .sound) ((good-length l fine) .some))
+      let z = good-length l fine in
+      (omega (arith, s .notes .leaves, chain-short (leaves l) (blocks l) (s .chain) (s .sound) (z .some)), omega (arith, z .whole, z .most))
+
+  visited-is : visited (leaves l) (blocks l) 0 (blocks l) start ≡ chainOf l
+  unfolding chainOf surveyed
+  visited-is = visited-chain (leaves l) (blocks l) 0 (blocks l) start refl sound
+
+  -- the notes of the walk are what is to be written
+  module _ (leasts numbers : List ℕ) (k : Noted (leaves l) (blocks l) 0 leasts numbers) (a : length leasts ≡ 256)
+      (b : length numbers ≡ 256) where
+    notes : NotedTo (leaves l) (chainOf l) (length (chainOf l)) leasts numbers
+    notes = subst (λ (bs : List ℕ). NotedTo (leaves l) bs (length bs) leasts numbers) visited-is k
+
+    keys-noted : (j : ℕ) → j < length (chainOf l) → getD leasts j 0 ≡ getD (map (λ b. smallestOf (leaves l b)) (chainOf l)) j 0
+    keys-noted j h =
+        notes .least j h (omega (arith, leaves-told, leaves-few .0, leaves-few .1)) ∙ sym (getD-map (λ b. smallestOf (leaves l b)) (chainOf l) j h)
+
+    blocks-noted : (j : ℕ) → j < length (chainOf l) → getD numbers j 0 ≡ getD (chainOf l) j 0
+    blocks-noted j h = notes .number j h (omega (arith, leaves-told, leaves-few .0, leaves-few .1))
 
 -- enough room
 pub not-short : (N a b : ℕ) → isShort N a b ≡ false → (N ≤ a) × (N ≤ b)
@@ -139,15 +142,20 @@ module _ (l : List ℕ) (ks vs : List ℕ) where
         sym (ap (recoveryOn (length (entriesIn l)))
         (row-left 1 _ fine ∙ row-left 8 _ wide ∙ row-given 3 0 (ap not (says-no l 0 fine ne))))
 
-    pub recovery-done : surveyed (leaves l) (blocks l) 0 .stage ≡ 1 → (n m : ℕ) (ks' vs' : List ℕ)
-        → m ≡ surveyed (leaves l) (blocks l) 0 .entries
-        → buffers n ks' vs' ≡ fill (blocks l) (leadsOf (leaves l) (chainFrom (leaves l) (blocks l) 0)) (buffers 0 ks vs)
-        → recoveryIs (recoveredAs (Leaves n m)) ks' vs' ≡ recoveryOf l ks vs
-    unfolding recoveryOf chainOf
-    recovery-done e n m ks' vs' q is =
+    pub recovery-done : (e : surveyed (leaves l) (blocks l) 0 .stage ≡ 1) → (n m : ℕ) (leasts numbers ks' vs' : List ℕ)
+        → n ≡ surveyed (leaves l) (blocks l) 0 .leaves → m ≡ surveyed (leaves l) (blocks l) 0 .entries
+        → Noted (leaves l) (blocks l) 0 leasts numbers → length leasts ≡ 256 → length numbers ≡ 256 → Copied n leasts ks ks'
+        → Copied n numbers vs vs' → recoveryIs (recoveredAs (Leaves n m)) ks' vs' ≡ recoveryOf l ks vs
+    unfolding recoveryOf
+    recovery-done e n m leasts numbers ks' vs' en em k a b ck cv =
         let room = not-short (blocks l) (length ks) (length vs) wide in
-        let whole = is ∙ leads-fill (leaves l) (blocks l) (chainOf l) ks vs (chain-fits l fine e) (room .0) (room .1) in
-        ap (λ (x : Buffers). recoveryIs (sizes 0 (x .used) m) (x .keys) (x .values)) whole
-        ∙ ap (λ (x : ℕ). recoveryOn x 0) (q ∙ entries-told l fine e)
+        let few = leaves-few l fine e in
+        let all : n ≡ length (chainOf l) = en ∙ leaves-told l fine e in
+        let smallest = map (λ b. smallestOf (leaves l b)) (chainOf l) in
+        let keys = copied-over n leasts ks ks' smallest (omega (arith, room .0, few .0)) (length-map (chainOf l) _ ∙ sym all)
+        (λ j h. keys-noted l fine e leasts numbers k a b j (omega arith)) ck in
+        let numbered = copied-over n numbers vs vs' (chainOf l) (omega (arith, room .1, few .0)) (sym all)
+        (λ j h. blocks-noted l fine e leasts numbers k a b j (omega arith)) cv in
+        (λ i. recoveryIs (sizes 0 (all i) ((em ∙ entries-told l fine e) i)) (keys i) (numbered i))
         ∙ sym (ap (recoveryOn (length (entriesIn l)))
         (row-left 1 _ fine ∙ row-left 8 _ wide ∙ row-left 3 0 (ap not (says-yes l 0 fine e))))

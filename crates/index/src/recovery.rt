@@ -1,18 +1,13 @@
-// Recovery: the smallest key and the number of each leaf, in chain order, into two lent buffers.
+// Recovery: the smallest key and the number of each leaf, in chain order, into two lent buffers. The walk notes them in buffers of
+// recovery's own, since a refused call writes to none that is lent.
 use leaf::place::Leaf;
-use leaf::search::smallest_key;
 use machine::bad_image;
-use survey::along::next_block;
-use survey::walk::survey;
+use survey::walk::survey_noting;
 ghost use mathlib.Core.Path.{_≡_};
-ghost use Prim.Native.Nat.{_+_, _*_, _≤_, _<_};
+ghost use Prim.Native.Nat.{_≤_};
 ghost use lib.ListN.{length};
-ghost use Rattle.leaf.specs.Search.{smallestOf};
-ghost use Rattle.image.specs.Chain.{All};
-ghost use Rattle.image.specs.Image.{blocks, leaves};
-ghost use Rattle.index.specs.Reading.{chainFrom, isShort, recoveredAs, recoveryIs, recoveryOf};
-ghost use Rattle.index.specs.Filling.{buffers, fill};
-ghost use Rattle.index.specs.RecoveryLaws.{leadsOf};
+ghost use Rattle.index.specs.Reading.{isShort, recoveredAs, recoveryIs, recoveryOf};
+ghost use Rattle.index.specs.RecoveryLaws.{Copied};
 
 pub enum Recovered {
     Leaves(u64, u64),
@@ -21,38 +16,18 @@ pub enum Recovered {
     Unsound,
 }
 
-fn smallest_in(image: &[u8], block: u64) -> u64
-    requires { ⌜ 256 * block + 256 ≤ length (now image) ⌝ }
-    ensures { λ r. ⌜ r ≡ smallestOf (leaves (now (image .entry)) block) ⌝ }
+// The first n notes of a walk, written out.
+fn copy_notes(leasts: &[u64], numbers: &[u8], n: usize, smallest: &mut [u64], blocks: &mut [u64])
+    requires { ⌜ (n ≤ length (now leasts)) × (n ≤ length (now numbers)) × (n ≤ length (now smallest)) × (n ≤ length (now blocks)) ⌝ }
+    ensures { λ _. ⌜ Copied n (now (leasts .entry)) (now (smallest .entry)) (now (smallest .exit))
+        × Copied n (now (numbers .entry)) (now (blocks .entry)) (now (blocks .exit)) ⌝ }
 {
-    let a = Leaf::BYTES * (block as usize);
-    let e = a + Leaf::BYTES;
-    smallest_key(&image[a..e])
-}
-
-// The leaves' smallest keys and numbers, from block 0 on. Returns how many there are.
-fn lead_chain(image: &[u8], smallest: &mut [u64], numbers: &mut [u64]) -> usize
-    requires { ⌜ (256 * blocks (now image) ≤ length (now image)) × (blocks (now image) ≤ length (now smallest))
-        × (blocks (now image) ≤ length (now numbers))
-        × All (λ b. b < blocks (now image)) (chainFrom (leaves (now image)) (blocks (now image)) 0) ⌝ }
-    ensures { λ r. ⌜ buffers r (now (smallest .exit)) (now (numbers .exit))
-        ≡ fill (blocks (now (image .entry)))
-        (leadsOf (leaves (now (image .entry))) (chainFrom (leaves (now (image .entry))) (blocks (now (image .entry))) 0))
-        (buffers 0 (now (smallest .entry)) (now (numbers .entry))) ⌝ }
-{
-    let turns = image.len() / Leaf::BYTES;
-    let mut block = 0;
     let mut i = 0;
-    while i < turns {
-        smallest[i] = smallest_in(image, block);
-        numbers[i] = block;
+    while i < n {
+        smallest[i] = leasts[i];
+        blocks[i] = numbers[i] as u64;
         i += 1;
-        block = next_block(image, block);
-        if block == 0 {
-            return i;
-        }
     }
-    i
 }
 
 fn is_short(n: usize, smallest: usize, numbers: usize) -> bool
@@ -71,10 +46,12 @@ pub fn recovery(image: &[u8], smallest: &mut [u64], blocks: &mut [u64]) -> Recov
     if is_short(image.len() / Leaf::BYTES, smallest.len(), blocks.len()) {
         return Recovered::ShortBuffer;
     }
-    let w = survey(image, 0);
+    let mut leasts = [0u64; 256];
+    let mut numbers = [0u8; 256];
+    let w = survey_noting(image, 0, &mut leasts, &mut numbers);
     if w.stage != 1 {
         return Recovered::Unsound;
     }
-    let leaves = lead_chain(image, smallest, blocks);
-    Recovered::Leaves(leaves as u64, w.entries)
+    copy_notes(&leasts, &numbers, w.leaves as usize, smallest, blocks);
+    Recovered::Leaves(w.leaves, w.entries)
 }

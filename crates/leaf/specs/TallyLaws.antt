@@ -1,19 +1,21 @@
 -- What a caller knows of a tally: no wrong fingerprint and no twin is a right leaf, and what the counts of keys say of each key.
 use mathlib.Core.Path.{_≡_, refl, sym, ap, _∙_}
 use mathlib.Core.Bool.{true, false, cond, not}
-use mathlib.Core.Logic.{_⊎_, inl, inr}
+use mathlib.Core.Logic.{_⊎_, inl, inr, _≢_}
 use Prim.Native.Nat.{ℕ, zero, suc, _+_, _≤_, _<_, min, max}
 use native.Mathlib.Decide.{ℕ-discrete, decLt}
 use native.Mathlib.Omega.{arith}
-use borrow.Author.Tests.{eq-eqb, ne-eqb, eqb-true, leb-true, leb-false, le-leb, lt-leb, not-false}
+use borrow.Author.Tests.{eq-eqb, ne-eqb, eqb-true, eqb-false, leb-true, leb-false, le-leb, lt-leb, not-true, not-false}
 use lib.Dec.{leb, eqb}
 use Rattle.words.specs.Bools.{both, both-true, by-test, differ, not-so}
 use Rattle.header.specs.Header.{fingerprintOf}
 use Rattle.leaf.specs.Leaf.{Leaf, Taken, Right}
-use Rattle.leaf.specs.Search.{countTo}
-use Rattle.leaf.specs.SearchLaws.{count-none, count-zero, count-some}
+use Rattle.leaf.specs.Search.{leastFrom, keyOr0, smallestOf, countTo, count}
+use Rattle.leaf.specs.SearchLaws.{least-at, least-none as no-least, count-none, count-zero, count-some}
 use Rattle.leaf.specs.Tally.{wrongAt, atMost, leastTo, mostTo, someTo, shares, twinAt, twins}
 use Rattle.leaf.specs.TallySteps.{some-none, none-some, some-yes}
+use Rattle.leaf.specs.declared.search.Slot.{Slot}
+use Rattle.leaf.specs.declared.search.Slot.the-variants.{At, Missing}
 
 module _ (L : Leaf) (inside : (s : ℕ) → Taken L s → s < L .size) where
   prints : countTo (wrongAt L) (L .size) ≡ 0 → (s : ℕ) → Taken L s → L .fp s ≡ fingerprintOf (L .key s)
@@ -176,3 +178,31 @@ least-reaches L (suc n) x b = by-test
         (λ d q. lt-leb least x (omega (arith, least-none L n (eqb-true all 0 q), b n)))
         (λ d q. refl)
         refl
+
+-- the smallest key by what a pass has: 0 where there is none
+pub smallest-is : (L : Leaf) → ((s : ℕ) → L .key s ≤ 18446744073709551615)
+    → cond (eqb (count L) 0) 0 (leastTo L (L .size)) ≡ smallestOf L
+unfolding smallestOf count
+smallest-is L b = go (leastFrom L 0) refl
+  where
+    all : ℕ
+    all = countTo (L .occ) (L .size)
+
+    least : ℕ
+    least = leastTo L (L .size)
+
+    low : ℕ → ℕ
+    low x = countTo (atMost L x) (L .size)
+
+    go : (x : Slot) → leastFrom L 0 ≡ x → cond (eqb all 0) 0 least ≡ keyOr0 L x
+    go Missing e = rw (eq-eqb all 0 (count-zero (L .occ) (L .size) (λ s c. not-so (L .occ s) (λ o.
+        absurd (omega (arith, no-least L 0 e s c o))))))
+    go (At s) e =
+        let m = least-at L 0 s e in
+        let some = ne-eqb all 0 (λ z. differ (sym (m .taken) ∙ count-none (L .occ) (L .size) z s (m .below))) in
+        let own = ne-eqb (low (L .key s)) 0 (λ z. absurd (omega (arith, none-at-most L (L .key s) (L .size) z s (m .below) (m .taken)))) in
+        let under = both-true (not (eqb all 0)) (leb least (L .key s)) (least-reaches L (L .size) (L .key s) b ∙ ap not own) in
+        let over : not (eqb (low least) 0) ≡ true = sym (least-reaches L (L .size) least b) ∙ rw (some, le-leb least least (omega arith)) in
+        let any : low least ≢ 0 = eqb-false (low least) 0 (not-true (eqb (low least) 0) over) in
+        let t = some-at-most L least (L .size) (omega arith) in
+        rw some (omega (arith, leb-true least (L .key s) (under .1), m .least (t .0) (t .1) (t .2) (omega arith), t .3))

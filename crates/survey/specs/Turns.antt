@@ -1,21 +1,25 @@
 -- A leaf judged, and one turn of the walk, as the code computes them.
 use mathlib.Core.Path.{_≡_, refl, sym, ap, _∙_}
 use mathlib.Core.Bool.{Bool, true, false, cond, not}
-use mathlib.Core.List.{List}
+use mathlib.Core.List.{List, [], _∷_}
 use Prim.Native.Nat.{ℕ, zero, suc, _+_, _-_, _*_, _≤_, _<_}
+use native.Mathlib.Decide.{ℕ-discrete}
+use native.Mathlib.Nat.{add-zero}
 use native.Mathlib.Omega.{arith}
 use borrow.Author.Tests.{eq-eqb, ne-eqb, eqb-true, leb-false}
 use lib.Dec.{leb, eqb}
+use lib.ListN.{length, getD, set, drop, length-set, length-drop}
+use lib.Seq.{getD-set-same, getD-set-other, getD-drop, drop-drop}
 use Rattle.words.specs.Update.{upd}
 use Rattle.words.specs.Bools.{both, by-test}
 use Rattle.header.specs.Header.{isLocked}
 use Rattle.leaf.specs.Leaf.{Leaf, leafIn, view}
-use Rattle.leaf.specs.Search.{count, countTo}
+use Rattle.leaf.specs.Search.{smallestOf, count, countTo}
 use Rattle.leaf.specs.SearchLaws.{count-most}
-use Rattle.leaf.specs.TallyLaws.{least-reaches}
+use Rattle.leaf.specs.TallyLaws.{least-reaches, smallest-is}
 use Rattle.leaf.specs.Tally.{Tells, wrongAt, atMost, mostTo, twins}
 use Rattle.leaf.specs.declared.tally.Tally.{Tally}
-use Rattle.survey.specs.Walk.{State, stopped, moved, firstFault, againBy, bareBy, lowBy, faultBy, reachedBy, faultOf, judged, start, walk, surveyed}
+use Rattle.survey.specs.Walk.{State, stopped, moved, firstFault, againBy, bareBy, lowBy, faultBy, reachedBy, smallestBy, faultOf, judged, start, walk, surveyed, visited, NotedTo}
 
 -- ---- the fault
 
@@ -53,6 +57,9 @@ module _ (L : Leaf) (t : Tally) (tells : Tells L t) (small : (s : ℕ) → L .ke
       ap (λ (b : Bool). eqb (cond b 1 0) 0)
       ((λ i. both (not (eqb (tells .entries i) 0)) (leb (tells .least i) x)) ∙ least-reaches L (L .size) x small)
       ∙ by-test (λ z. eqb (cond (not z) 1 0) 0 ≡ z) (eqb (countTo (atMost L x) (L .size)) 0) (λ e. refl) (λ e. refl)
+
+pub smallest-told : (L : Leaf) (t : Tally) → Tells L t → ((s : ℕ) → L .key s ≤ 18446744073709551615) → smallestBy t ≡ smallestOf L
+smallest-told L t tells small = (λ i. cond (eqb (tells .entries i) 0) 0 (tells .least i)) ∙ smallest-is L small
 
 -- what the code has at hand is what is asked of the leaf
 pub fault-is : (L : Leaf) (N next head : ℕ) (t : Tally) (st : State) → Tells L t
@@ -208,3 +215,77 @@ module _ (I : ℕ → Leaf) (N key : ℕ) where
   pub walk-end : (i : ℕ) (st : State) → N ≤ i → walk I N key (N - i) st ≡ st
   unfolding walk
   walk-end i st h = let n : N - i ≡ 0 = omega arith in rw n
+
+  -- ---- the leaves visited
+
+  pub visited-stop : (n : ℕ) (st : State) → (st .stage ≡ 0 → ⊥) → visited I N key n st ≡ []
+  unfolding visited
+  visited-stop zero st ne = refl
+  visited-stop (suc n) st ne = rw (ne-eqb (st .stage) 0 ne)
+
+  abbrev pub way : List ℕ
+  way = visited I N key N start
+
+  -- those to come after i turns
+  abbrev pub Coming : ℕ → State → Type 0
+  Coming i st = drop i way ≡ visited I N key (N - i) st
+
+  pub coming-all : (st : State) → st ≡ start → Coming 0 st
+  coming-all st e = let n : N - 0 ≡ N = omega arith in rw (n, e)
+
+  module _ (i : ℕ) (st : State) (c : Coming i st) where
+    coming-one : i < N → st .stage ≡ 0 → drop i way ≡ st .at ∷ visited I N key (N - (i + 1)) (judged (I (st .at)) N key st)
+    unfolding visited
+    coming-one h e = c ∙ (let n : N - i ≡ suc (N - (i + 1)) = omega arith in rw (n, eq-eqb (st .stage) 0 e))
+
+    pub coming-here : i < N → st .stage ≡ 0 → getD way i 0 ≡ st .at
+    coming-here h e = sym (getD-drop i way 0 0 ∙ rw (add-zero i)) ∙ ap (λ (l : List ℕ). getD l 0 0) (coming-one h e)
+
+    pub coming-next : (r : State) → i < N → st .stage ≡ 0 → r ≡ judged (I (st .at)) N key st → Coming (i + 1) r
+    coming-next r h e j =
+        rw (j, ← drop-drop 1 i way) (ap (drop 1) (coming-one h e))
+
+    coming-none : visited I N key (N - i) st ≡ [] → length way ≤ i
+    coming-none e = omega (arith, length-drop i way, ap (λ (l : List ℕ). length l) (c ∙ e))
+
+    -- the walk has stopped, or made all its turns
+    pub coming-stop : (st .stage ≡ 0 → ⊥) → length way ≤ i
+    coming-stop ne = coming-none (visited-stop (N - i) st ne)
+
+    pub coming-end : N ≤ i → length way ≤ i
+    unfolding visited
+    coming-end h = coming-none (let n : N - i ≡ 0 = omega arith in rw n)
+
+-- ---- what is noted of them
+
+module _ (I : ℕ → Leaf) (bs : List ℕ) where
+  pub noted-none : (leasts numbers : List ℕ) → NotedTo I bs 0 leasts numbers
+  noted-none leasts numbers = record { least = λ j b c. absurd (omega arith); number = λ j b c. absurd (omega arith) }
+
+  -- one more
+  pub noted-next : (i b : ℕ) (leasts numbers ls ns : List ℕ) → getD bs i 0 ≡ b → NotedTo I bs i leasts numbers
+      → ls ≡ set leasts i (smallestOf (I b)) → ns ≡ set numbers i b → NotedTo I bs (i + 1) ls ns
+  noted-next i b leasts numbers ls ns e k el en = rw (el, en) (record {
+    least = λ j c d. elim (ℕ-discrete j i) [
+      | yes q ↦ rw (q, e) (getD-set-same leasts i (smallestOf (I b)) 0 (omega (arith, length-set leasts i (smallestOf (I b)))))
+      | no q ↦ getD-set-other leasts i j (smallestOf (I b)) 0 q
+          ∙ k .least j (omega arith) (omega (arith, length-set leasts i (smallestOf (I b))))
+    ];
+    number = λ j c d. elim (ℕ-discrete j i) [
+      | yes q ↦ rw (q, e) (getD-set-same numbers i b 0 (omega (arith, length-set numbers i b)))
+      | no q ↦ getD-set-other numbers i j b 0 q ∙ k .number j (omega arith) (omega (arith, length-set numbers i b))
+    ];
+  })
+
+  pub noted-all : (i : ℕ) (leasts numbers : List ℕ) → length bs ≤ i → NotedTo I bs i leasts numbers
+      → NotedTo I bs (length bs) leasts numbers
+  noted-all i leasts numbers h k = record {
+    least = λ j b c. k .least j (omega arith) c;
+    number = λ j b c. k .number j (omega arith) c;
+  }
+
+-- a buffer that ends before i stays as it is
+pub set-past : (l : List ℕ) (i v : ℕ) → length l ≤ i → set l i v ≡ l
+set-past [] i v h = refl
+set-past (x ∷ l) zero v h = absurd (omega arith)
+set-past (x ∷ l) (suc i) v h = ap (λ (r : List ℕ). x ∷ r) (set-past l i v (omega arith))

@@ -1,12 +1,15 @@
 -- The walk along the chain as a function of the leaves I of an image of N blocks and of the key sought.
 use mathlib.Core.Bool.{Bool, true, false, cond, not}
-use Prim.Native.Nat.{ℕ, zero, suc, _+_}
+use mathlib.Core.List.{List, [], _∷_}
+use mathlib.Core.Path.{_≡_}
+use Prim.Native.Nat.{ℕ, zero, suc, _+_, _<_}
 use lib.Dec.{leb, eqb}
+use lib.ListN.{length, getD}
 use Rattle.words.specs.Update.{upd}
 use Rattle.words.specs.Bools.{both}
 use Rattle.header.specs.Header.{isLocked}
 use Rattle.leaf.specs.Leaf.{Leaf}
-use Rattle.leaf.specs.Search.{count, countTo}
+use Rattle.leaf.specs.Search.{smallestOf, count, countTo}
 use Rattle.leaf.specs.Tally.{wrongAt, atMost, mostTo, twins}
 use Rattle.leaf.specs.declared.tally.Tally.{Tally}
 use Rattle.survey.specs.Marks.{setOf, isIn}
@@ -91,6 +94,10 @@ faultBy N next head twin t low st =
 abbrev pub reachedBy : Tally → ℕ → ℕ
 reachedBy t x = cond (both (not (eqb (t .entries) 0)) (leb (t .least) x)) 1 0
 
+-- the smallest key by a tally, 0 where there is none
+abbrev pub smallestBy : Tally → ℕ
+smallestBy t = cond (eqb (t .entries) 0) 0 (t .least)
+
 unfoldable pub faultOf : Leaf → ℕ → State → ℕ
 faultOf L N st =
     firstFault (leb N (L .next)) (againBy st (L .next)) (L .lock) (bareBy st (count L))
@@ -125,3 +132,19 @@ start = record {
 
 unfoldable pub surveyed : (ℕ → Leaf) → ℕ → ℕ → State
 surveyed I N key = walk I N key N start
+
+-- ---- what is noted on the way
+
+-- the leaves judged in at most n turns
+unfoldable pub visited : (ℕ → Leaf) → ℕ → ℕ → ℕ → State → List ℕ
+visited I N key zero st = []
+visited I N key (suc n) st = cond (eqb (st .stage) 0) (st .at ∷ visited I N key n (judged (I (st .at)) N key st)) []
+
+-- of the first n of some leaves the smallest keys and the numbers, as far as the buffers reach
+pub record NotedTo (I : ℕ → Leaf) (bs : List ℕ) (n : ℕ) (leasts numbers : List ℕ) : Type 0 where
+  pub least : (j : ℕ) → j < n → j < length leasts → getD leasts j 0 ≡ smallestOf (I (getD bs j 0))
+  pub number : (j : ℕ) → j < n → j < length numbers → getD numbers j 0 ≡ getD bs j 0
+
+-- of all leaves of the walk
+abbrev pub Noted : (ℕ → Leaf) → ℕ → ℕ → List ℕ → List ℕ → Type 0
+Noted I N key leasts numbers = let bs = visited I N key N start in NotedTo I bs (length bs) leasts numbers

@@ -10,15 +10,16 @@ ghost use mathlib.Core.Path.{_≡_};
 ghost use mathlib.Core.Bool.{false, not, cond};
 ghost use Prim.Native.Nat.{_+_, _*_, _/_, _≤_, _<_};
 ghost use lib.Dec.{eqb};
-ghost use lib.ListN.{length};
+ghost use lib.ListN.{length, set};
 ghost use Rattle.words.specs.Words.{reads};
 ghost use Rattle.words.specs.Bools.{both};
 ghost use Rattle.header.specs.Header.{headAt, bitsOf};
 ghost use Rattle.leaf.specs.Leaf.{leafIn, view};
+ghost use Rattle.leaf.specs.Search.{smallestOf};
 ghost use Rattle.leaf.specs.Tally.{twins};
 ghost use Rattle.leaf.specs.TallySteps.{Hits};
 ghost use Rattle.survey.specs.Marks.{setOf, isIn};
-ghost use Rattle.survey.specs.Walk.{stateOf, firstFault, stopped, moved, faultBy, reachedBy, judged, start, surveyed};
+ghost use Rattle.survey.specs.Walk.{stateOf, stopped, moved, faultBy, reachedBy, smallestBy, judged, start, surveyed, Noted};
 
 // Where the walk is and what it has noted. The stage is 0 while it goes on, 1 where the chain has ended, and else the fault:
 // request [1]'s numbers, 31 to 37. All are numbers, so that none is copied with padding.
@@ -55,42 +56,6 @@ fn reaches(t: Tally, x: u64) -> u64
     } else {
         0
     }
-}
-
-// The first of the faults, in the order in which they are told, or 0.
-fn first_fault(
-    far: bool,
-    again: bool,
-    locked: bool,
-    bare: bool,
-    wrong: bool,
-    twin: bool,
-    low: bool,
-) -> u64
-    ensures { λ r. ⌜ r ≡ firstFault far again locked bare wrong twin low ⌝ }
-{
-    if far {
-        return 31;
-    }
-    if again {
-        return 32;
-    }
-    if locked {
-        return 33;
-    }
-    if bare {
-        return 34;
-    }
-    if wrong {
-        return 35;
-    }
-    if twin {
-        return 36;
-    }
-    if low {
-        return 37;
-    }
-    0
 }
 
 fn stop(w: Walk, fault: u64) -> Walk
@@ -155,7 +120,7 @@ fn is_twinned(leaf: &[u8], head: Header, hits: u64) -> bool
     has_twins(leaf, head, hits)
 }
 
-// The fault of a leaf whose active sibling and tally are told, or 0.
+// The first of the faults of a leaf whose active sibling and tally are told, in the order in which they are told, or 0.
 fn fault_of(leaf: &[u8], head: Header, n: u64, w: Walk, next: u64, t: Tally) -> u64
     requires { ⌜ (256 ≤ length (now leaf)) × (n ≤ 256) × (bitsOf head ≡ headAt (now leaf) 0)
         × (t .hits ≡ 0 → twins (leafIn (now leaf)) ≡ false) × Hits (leafIn (now leaf)) 14 (t .hits) ⌝ }
@@ -164,28 +129,65 @@ fn fault_of(leaf: &[u8], head: Header, n: u64, w: Walk, next: u64, t: Tally) -> 
     if n <= next {
         return 31;
     }
-    let again = is_again(w.met, next);
-    let locked = head.locked();
-    let bare = is_bare(t.entries, w.at);
-    let wrong = t.wrong != 0;
-    let twin = is_twinned(leaf, head, t.hits);
-    let low = is_low(w.entries, reaches(t, w.last));
-    first_fault(false, again, locked, bare, wrong, twin, low)
+    if is_again(w.met, next) {
+        return 32;
+    }
+    if head.locked() {
+        return 33;
+    }
+    if is_bare(t.entries, w.at) {
+        return 34;
+    }
+    if t.wrong != 0 {
+        return 35;
+    }
+    if is_twinned(leaf, head, t.hits) {
+        return 36;
+    }
+    if is_low(w.entries, reaches(t, w.last)) {
+        return 37;
+    }
+    0
 }
 
-// The leaf's number for the stamps, from 255 down: they hold 0 at first, and no leaf near it has the same.
-fn number_of(leaves: u64) -> u8 {
+// What the stamps of a leaf bear, from 255 down: they hold 0 at first, and no leaf near it has the same.
+fn stamp_of(leaves: u64) -> u8 {
     (255 - leaves % 256) as u8
 }
 
-fn judge(leaf: &[u8], n: u64, key: u64, stamps: &mut [u8], w: Walk) -> Walk
-    requires { ⌜ (256 ≤ length (now leaf)) × (n ≤ 256) × (256 ≤ length (now stamps)) × (w .leaves ≤ 256) × (w .entries ≤ 3584) ⌝ }
+// Notes the smallest key and the number of the leaf that is the i-th of the walk, where the buffers reach so far: who asks for
+// no notes lends empty ones.
+fn note_leaf(leasts: &mut [u64], numbers: &mut [u8], i: usize, at: u64, t: Tally)
+    requires { ⌜ (at < 256) × (length (now numbers) ≡ length (now leasts)) ⌝ }
+    ensures { λ _. ⌜ (now (leasts .exit) ≡ set (now (leasts .entry)) i (smallestBy t)) × (now (numbers .exit) ≡ set (now (numbers .entry)) i at) ⌝ }
+{
+    if i < leasts.len() {
+        leasts[i] = pick(t.entries == 0, 0, t.least);
+        numbers[i] = (at % 256) as u8;
+    }
+}
+
+fn judge(
+    leaf: &[u8],
+    n: u64,
+    key: u64,
+    stamps: &mut [u8],
+    leasts: &mut [u64],
+    numbers: &mut [u8],
+    i: usize,
+    w: Walk,
+) -> Walk
+    requires { ⌜ (256 ≤ length (now leaf)) × (n ≤ 256) × (256 ≤ length (now stamps)) × (w .leaves ≤ 256) × (w .entries ≤ 3584)
+        × (w .at < 256) × (length (now numbers) ≡ length (now leasts)) ⌝ }
     ensures { λ r. ⌜ (stateOf r ≡ judged (leafIn (now (leaf .entry))) n key (stateOf w))
-        × (length (now (stamps .exit)) ≡ length (now (stamps .entry))) ⌝ }
+        × (length (now (stamps .exit)) ≡ length (now (stamps .entry)))
+        × (now (leasts .exit) ≡ set (now (leasts .entry)) i (smallestOf (leafIn (now (leaf .entry)))))
+        × (now (numbers .exit) ≡ set (now (numbers .entry)) i (w .at)) ⌝ }
 {
     let head = Header::read(leaf, 0);
     let next = next_of(leaf, head);
-    let t = tally_of(leaf, head, stamps, number_of(w.leaves));
+    let t = tally_of(leaf, head, stamps, stamp_of(w.leaves));
+    note_leaf(leasts, numbers, i, w.at, t);
     let fault = fault_of(leaf, head, n, w, next, t);
     if fault == 0 {
         return onward(w, next, reaches(t, key), t);
@@ -210,22 +212,42 @@ fn begun() -> Walk
     }
 }
 
-// One turn: the leaf at hand, in its part of the image, judged.
-fn turn(image: &[u8], n: u64, key: u64, stamps: &mut [u8], w: Walk) -> Walk
+// One turn, the i-th: the leaf at hand, in its part of the image, judged and noted.
+fn turn(
+    image: &[u8],
+    n: u64,
+    key: u64,
+    stamps: &mut [u8],
+    leasts: &mut [u64],
+    numbers: &mut [u8],
+    i: usize,
+    w: Walk,
+) -> Walk
     requires { ⌜ (n ≤ 256) × (256 * n ≤ length (now image)) × (w .at < n) × (256 ≤ length (now stamps)) × (w .leaves ≤ 256)
-        × (w .entries ≤ 3584) ⌝ }
+        × (w .entries ≤ 3584) × (length (now numbers) ≡ length (now leasts)) ⌝ }
     ensures { λ r. ⌜ (stateOf r ≡ judged (view (reads (now (image .entry))) (w .at)) n key (stateOf w))
-        × (length (now (stamps .exit)) ≡ length (now (stamps .entry))) ⌝ }
+        × (length (now (stamps .exit)) ≡ length (now (stamps .entry)))
+        × (now (leasts .exit) ≡ set (now (leasts .entry)) i (smallestOf (view (reads (now (image .entry))) (w .at))))
+        × (now (numbers .exit) ≡ set (now (numbers .entry)) i (w .at)) ⌝ }
 {
     let a = Leaf::BYTES * (w.at as usize);
     let e = a + Leaf::BYTES;
-    judge(&image[a..e], n, key, stamps, w)
+    judge(&image[a..e], n, key, stamps, leasts, numbers, i, w)
 }
 
 // At most as many turns as there are blocks: no chain is longer.
-fn walk_along(image: &[u8], key: u64, stamps: &mut [u8]) -> Walk
-    requires { ⌜ (256 ≤ length (now image)) × (length (now image) ≤ 65536) × (256 ≤ length (now stamps)) ⌝ }
-    ensures { λ r. ⌜ stateOf r ≡ surveyed (view (reads (now (image .entry)))) (length (now (image .entry)) / 256) key ⌝ }
+fn walk_along(
+    image: &[u8],
+    key: u64,
+    stamps: &mut [u8],
+    leasts: &mut [u64],
+    numbers: &mut [u8],
+) -> Walk
+    requires { ⌜ (256 ≤ length (now image)) × (length (now image) ≤ 65536) × (256 ≤ length (now stamps))
+        × (length (now numbers) ≡ length (now leasts)) ⌝ }
+    ensures { λ r. ⌜ (stateOf r ≡ surveyed (view (reads (now (image .entry)))) (length (now (image .entry)) / 256) key)
+        × Noted (view (reads (now (image .entry)))) (length (now (image .entry)) / 256) key (now (leasts .exit))
+        (now (numbers .exit)) ⌝ }
 {
     let n = image.len() / Leaf::BYTES;
     let mut w = begun();
@@ -234,16 +256,28 @@ fn walk_along(image: &[u8], key: u64, stamps: &mut [u8]) -> Walk
         if w.stage != 0 {
             return w;
         }
-        w = turn(image, n as u64, key, stamps, w);
+        w = turn(image, n as u64, key, stamps, leasts, numbers, i, w);
         i += 1;
     }
     w
+}
+
+// The walk, with the smallest key and the number of each leaf noted in chain order.
+pub fn survey_noting(image: &[u8], key: u64, leasts: &mut [u64], numbers: &mut [u8]) -> Walk
+    requires { ⌜ (256 ≤ length (now image)) × (length (now image) ≤ 65536) × (length (now numbers) ≡ length (now leasts)) ⌝ }
+    ensures { λ r. ⌜ (stateOf r ≡ surveyed (view (reads (now (image .entry)))) (length (now (image .entry)) / 256) key)
+        × Noted (view (reads (now (image .entry)))) (length (now (image .entry)) / 256) key (now (leasts .exit))
+        (now (numbers .exit)) ⌝ }
+{
+    let mut stamps = [0u8; 256];
+    walk_along(image, key, &mut stamps, leasts, numbers)
 }
 
 pub fn survey(image: &[u8], key: u64) -> Walk
     requires { ⌜ (256 ≤ length (now image)) × (length (now image) ≤ 65536) ⌝ }
     ensures { λ r. ⌜ stateOf r ≡ surveyed (view (reads (now (image .entry)))) (length (now (image .entry)) / 256) key ⌝ }
 {
-    let mut stamps = [0u8; 256];
-    walk_along(image, key, &mut stamps)
+    let mut leasts = [0u64; 0];
+    let mut numbers = [0u8; 0];
+    survey_noting(image, key, &mut leasts, &mut numbers)
 }
