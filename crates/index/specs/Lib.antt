@@ -3,7 +3,6 @@
 pub mod Reading
 pub mod SoundTest
 pub mod FindLaws
-pub mod Places
 pub mod Filling
 pub mod Along
 pub mod ListingLaws

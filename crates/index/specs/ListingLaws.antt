@@ -4,19 +4,19 @@ use mathlib.Core.Path.{_≡_, refl, sym, ap, _∙_, subst}
 use mathlib.Core.Bool.{true, false, cond, not}
 use mathlib.Core.List.{List, [], _∷_, _++_, map}
 use mathlib.Core.Logic.{_≢_}
-use Prim.Native.Nat.{ℕ, zero, suc, _+_, _-_, _≤_, _<_, min}
+use Prim.Native.Nat.{ℕ, suc, _+_, _-_, _≤_, _<_, min}
 use native.Mathlib.Numerals.{add-one}
 use native.Mathlib.Omega.{arith}
 use lib.Dec.{eqb}
 use lib.ListN.{length, take, drop, getD, set, length-take, drop-of-length-le}
-use lib.Seq.{drop-cons, getD-take}
-use Rattle.leaf.specs.Leaf.{Leaf, Taken, Right, leafIn}
+use lib.Seq.{drop-cons}
+use Rattle.leaf.specs.Leaf.{Leaf, Right, leafIn}
 use Rattle.steps.specs.Refusals.{badImage}
 use Rattle.image.specs.Map.{Entry, startingAt}
 use Rattle.image.specs.Chain.{All}
 use Rattle.image.specs.Image.{blocks, leaves}
-use Rattle.image.specs.ChainLaws.{Good, sound-good, all-map, all-zip, all-split}
-use Rattle.image.specs.Order.{slotsFrom, slotsOf, slots-from}
+use Rattle.image.specs.ChainLaws.{Good, sound-good, all-zip, all-split}
+use Rattle.image.specs.Order.{slotsFrom, slotsOf}
 use Rattle.image.specs.Entries.{entryIn, entriesIn, entriesOf, listOf, list-from}
 use Rattle.survey.specs.Walk.{surveyed}
 use Rattle.index.specs.Reading.{chainFrom, entriesIn as inMap, over}
@@ -24,7 +24,6 @@ use Rattle.index.specs.Reading.{counted, listedAs, Listing, listingIs, l
 use Rattle.steps.specs.Refusals.{row-given, row-left}
 use Rattle.index.specs.SoundTest.{says-yes, says-no, noted-target}
 use Rattle.index.specs.Filling.{Buffers, buffers, fill, fill-full, fill-one, fill-append, fill-whole}
-use Rattle.index.specs.Places.{Placed, placed-last}
 use Rattle.index.specs.Along.{chain-on, chain-last, chain-over}
 use Rattle.index.specs.declared.listing.Listed.the-variants.{Count, BadImage, Unsound}
 
@@ -51,33 +50,14 @@ module _ (L : Leaf) (room i n : ℕ) (ss ks vs : List ℕ) (whole : Buffers)
       (sym (fill-one room (entryIn L (getD ss i 0)) (entriesIn L (drop (suc i) ss)) (buffers n ks vs) has-room)
       ∙ (rw (drop-cons ss i 0 turn) at so-far))
 
-all-at : (P : ℕ → Type 0) (ss : List ℕ) (i : ℕ) → All P ss → i < length ss → P (getD ss i 0)
-all-at P [] i a h = absurd (omega arith)
-all-at P (s ∷ ss) zero a h = a .0
-all-at P (s ∷ ss) (suc i) a h = all-at P ss i (a .1) (omega arith)
-
 -- the first so many slots of an order
-module _ (order : List ℕ) (n : ℕ) (h : n ≤ length order) where
-  pub first-length : length (take n order) ≡ n
-  first-length = omega (arith, length-take n order)
+pub first-length : (order : List ℕ) (n : ℕ) → n ≤ length order → length (take n order) ≡ n
+first-length order n h = omega (arith, length-take n order)
 
-  pub first-at : (i : ℕ) → i < n → All (λ s. s < 14) (take n order) → getD order i 0 < 14
-  first-at i b a = rw (← getD-take n order i 0 b) (all-at (λ s. s < 14) (take n order) i a (omega (arith, first-length)))
-
-module _ (l : List ℕ) (r : Right (leafIn l)) (lo : ℕ) (n : ℕ) (order : List ℕ) (b : length order ≡ 14)
-    (e : n ≡ length (slotsFrom (leafIn l) 14 lo)) (p : Placed (leafIn l) lo 14 order) where
-  order-is : take n order ≡ slotsFrom (leafIn l) 14 lo
-  order-is = rw e (placed-last l r lo order p b)
-
-  pub order-inside : All (λ s. s < 14) (take n order)
-  unfolding leafIn
-  order-inside = rw order-is
-      (all-map (λ s. Taken (leafIn l) s) (λ s. s < 14) (λ s a. r .inside s a) (slotsFrom (leafIn l) 14 lo)
-      (slots-from (leafIn l) r lo .taken))
-
-  pub order-lists : entriesIn (leafIn l) (take n order) ≡ entriesFrom (leafIn l) lo
-  unfolding entriesFrom leafIn
-  order-lists = ap (entriesIn (leafIn l)) order-is
+pub order-lists : (l : List ℕ) (lo : ℕ) (ss : List ℕ) → ss ≡ slotsFrom (leafIn l) 14 lo
+    → entriesIn (leafIn l) ss ≡ entriesFrom (leafIn l) lo
+unfolding entriesFrom leafIn
+order-lists l lo ss e = ap (entriesIn (leafIn l)) e
 
 -- ---- the leaves of a chain
 

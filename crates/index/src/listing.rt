@@ -1,14 +1,14 @@
 // Listing: the entries from a key on, rising, into two lent buffers.
-use crate::order::order_from;
 use leaf::place::Leaf;
 use leaf::search::key_at;
 use leaf::search::value_at;
 use machine::bad_image;
+use order::order_from;
 use survey::along::next_block;
 use survey::walk::survey;
 ghost use mathlib.Core.Path.{_≡_};
-ghost use Prim.Native.Nat.{_+_, _*_, _/_, _≤_, _<_, min};
-ghost use lib.ListN.{length, take};
+ghost use Prim.Native.Nat.{ℕ, _+_, _*_, _/_, _≤_, _<_, min};
+ghost use lib.ListN.{length, take, getD};
 ghost use Rattle.leaf.specs.Leaf.{leafIn, Right};
 ghost use Rattle.image.specs.Chain.{All};
 ghost use Rattle.image.specs.Entries.{entriesIn};
@@ -34,7 +34,7 @@ fn list_slots(
     used: usize,
 ) -> usize
     requires { ⌜ (256 ≤ length (now leaf)) × (room ≤ length (now keys)) × (room ≤ length (now values)) × (length (now order) ≡ 14)
-        × (count ≤ 14) × All (λ s. s < 14) (take count (now order)) ⌝ }
+        × (count ≤ 14) × ((i : ℕ) → getD (take count (now order)) i 0 < 14) ⌝ }
     ensures { λ r. ⌜ buffers r (now (keys .exit)) (now (values .exit))
         ≡ fill room (entriesIn (leafIn (now (leaf .entry))) (take count (now (order .entry))))
         (buffers used (now (keys .entry)) (now (values .entry))) ⌝ }

@@ -4,8 +4,9 @@ use mathlib.Core.Path.{ap, _∙_}
 use mathlib.Core.List.{List}
 use denote.Ref.{now}
 use Rattle.image.specs.Map.{Entry}
+use Rattle.order.specs.Places.{slots-below}
 use Rattle.index.specs.Filling.{buffers, fill}
-use Rattle.index.specs.ListingLaws.{order-inside, order-lists}
+use Rattle.index.specs.ListingLaws.{order-lists}
 use Rattle.index.proofs.listing.list_leaf.Statement.{statement}
 use Rattle.index.proofs.listing.list_leaf.Tie as tie
 
@@ -18,10 +19,9 @@ list-slots-requires c κs =
       omega arith,
       omega arith,
       omega arith,
-      e .0,
-      e .2,
-      order-inside (now (a .leaf)) (st .pre .1) (a .from)
-          (o .order-from .result) _ (e .0) (e .1) (e .3),
+      e .long,
+      e .few,
+      (λ i. rw (e .first) (slots-below (now (a .leaf)) (st .pre .1) (a .from) i)),
     )
 
 returns : tie.Need-returns
@@ -30,10 +30,9 @@ returns c =
     let o = w .before .before .before .before .before in
     let st = o .before .before .before .before .before in
     let a = st .args in
-    let e = o .order-from .ensures in
     w .list-slots .ensures
     ∙ ap (λ (es : List Entry). fill (a .room) es (buffers (a .used) (now (a .keys)) (now (a .values))))
-    (order-lists (now (a .leaf)) (st .pre .1) (a .from) (o .order-from .result) _ (e .0) (e .1) (e .3))
+    (order-lists (now (a .leaf)) (a .from) _ (o .order-from .ensures .first))
 
 pub list-leaf-spec : {M : Type 1} → statement M
 list-leaf-spec =

@@ -9,7 +9,7 @@ use lib.Seq.{getD-take}
 use Rattle.leaf.specs.Leaf.{leafIn}
 use Rattle.image.specs.Entries.{entriesIn}
 use Rattle.index.specs.Filling.{buffers, fill}
-use Rattle.index.specs.ListingLaws.{slots-end, slots-full, slots-next, first-length, first-at}
+use Rattle.index.specs.ListingLaws.{slots-end, slots-full, slots-next, first-length}
 use Rattle.index.proofs.listing.list_slots.Statement.{statement}
 use Rattle.index.proofs.listing.list_slots.Tie as tie
 
@@ -38,14 +38,14 @@ key-at-requires c κs =
     let k = c .before .before .before in
     let st = k .before .before .before .before .before in
     let a = st .args in
-    (omega arith, first-at (now (a .order)) (a .count) (omega arith) (k .loop .i) (omega arith) (st .pre .5))
+    (omega arith, omega (arith, getD-take (a .count) (now (a .order)) (k .loop .i) 0 (omega arith), st .pre .5 (k .loop .i)))
 
 value-at-requires : tie.Need-value-at-requires Inv-loop μ-loop
 value-at-requires c κs =
     let k = c .before .before .before .before in
     let st = k .before .before .before .before .before in
     let a = st .args in
-    (omega arith, first-at (now (a .order)) (a .count) (omega arith) (k .loop .i) (omega arith) (st .pre .5))
+    (omega arith, omega (arith, getD-take (a .count) (now (a .order)) (k .loop .i) 0 (omega arith), st .pre .5 (k .loop .i)))
 
 loop-again : tie.Need-loop-again Inv-loop μ-loop
 loop-again c =
