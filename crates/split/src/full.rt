@@ -1,19 +1,20 @@
 // The put into a full leaf: the split, and where the new key is below the smallest moved one, the plain put behind it.
-use crate::halves::fill_moved;
 use crate::heads::old_head;
 use crate::write::write_split;
 use emit::plain::append_plain_put;
 use header::Header;
 use leaf::search::key_at;
+use order::order_from;
 ghost use mathlib.Core.Path.{_≡_};
 ghost use Prim.Native.Nat.{_≤_, _<_};
 ghost use lib.ListN.{length};
 ghost use Rattle.header.specs.Header.{bitsOf, headAt};
-ghost use Rattle.leaf.specs.Leaf.{leafIn};
-ghost use Rattle.lists.specs.FullLists.{movedSlots};
+ghost use Rattle.leaf.specs.Leaf.{leafIn, Right};
+ghost use Rattle.leaf.specs.Search.{count};
 ghost use Rattle.split.specs.Full.{FullPut};
 
-// Tells how many steps it wrote. The leaf is that of the block in some image whose list this is.
+// Of the slots in rising order of their keys the upper half moves. Tells how many steps it wrote. The leaf is that of the block in
+// some image whose list this is.
 pub fn write_full_put(
     list: &mut [u64],
     head: Header,
@@ -24,16 +25,17 @@ pub fn write_full_put(
     value: u64,
 ) -> usize
     requires { ⌜ (112 ≤ length (now list)) × (256 ≤ length (now leaf)) × (block < 256) × (new < 256)
-        × (bitsOf head ≡ headAt (now leaf) 0) × (length (movedSlots (leafIn (now leaf))) ≡ 7) ⌝ }
+        × (bitsOf head ≡ headAt (now leaf) 0) × Right (leafIn (now leaf)) × (count (leafIn (now leaf)) ≡ 14) ⌝ }
     ensures { λ r. ⌜ FullPut (bitsOf head) (leafIn (now (leaf .entry))) block new key value
         (now (list .entry)) (now (list .exit)) r ⌝ }
 {
-    let mut moved = [0u64; 7];
-    fill_moved(leaf, &mut moved);
+    let mut order = [0u64; 14];
+    order_from(leaf, 0, &mut order);
+    let moved = &order[7..14];
     let up = key_at(leaf, moved[0] as usize) < key;
-    write_split(list, head, leaf, &moved, block, new, up, key, value);
+    write_split(list, head, leaf, moved, block, new, up, key, value);
     if up {
         return 42;
     }
-    42 + append_plain_put(list, 42, old_head(head, &moved), leaf, block, key, value)
+    42 + append_plain_put(list, 42, old_head(head, moved), leaf, block, key, value)
 }

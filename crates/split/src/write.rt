@@ -151,9 +151,9 @@ pub fn write_split(
     key: u64,
     value: u64,
 )
-    requires { ⌜ (84 ≤ length (now list)) × (256 ≤ length (now leaf)) × (length (now moved) ≡ 7) × (block < 256) × (new < 256)
-        × (bitsOf head ≡ headAt (now leaf) 0) × (now moved ≡ movedSlots (leafIn (now leaf)))
-        × (up ≡ goesUp (leafIn (now leaf)) key) ⌝ }
+    requires { ⌜ (84 ≤ length (now list)) × (256 ≤ length (now leaf)) × (length (now moved) ≡ 7)
+        × ((i : ℕ) → getD (now moved) i 0 < 14) × (block < 256) × (new < 256) × (bitsOf head ≡ headAt (now leaf) 0)
+        × (now moved ≡ movedSlots (leafIn (now leaf))) × (up ≡ goesUp (leafIn (now leaf)) key) ⌝ }
     ensures { λ _. ⌜ ((w : ℕ → ℕ) → headIn w block ≡ bitsOf head → view w block ≡ leafIn (now (leaf .entry))
         → now (list .exit) ≡ written (splitList w block new key value) (now (list .entry))) ⌝ }
 {

@@ -1,5 +1,5 @@
 -- What a put into a full leaf rests on: the leaf in its part of the image is the image's.
-use mathlib.Core.Path.{_≡_, refl, sym, ap, _∙_}
+use mathlib.Core.Path.{_≡_, refl, sym, ap, subst, _∙_}
 use mathlib.Core.List.{List}
 use mathlib.Core.Logic.{_≢_}
 use Prim.Native.Nat.{ℕ, _+_, _-_, _*_}
@@ -7,7 +7,7 @@ use lib.ListN.{length, take, drop}
 use Rattle.words.specs.Words.{reads}
 use Rattle.words.specs.WordLaws.{Bytes}
 use Rattle.header.specs.Header.{headAt}
-use Rattle.leaf.specs.Leaf.{Leaf, Right, leafIn}
+use Rattle.leaf.specs.Leaf.{Right, leafIn}
 use Rattle.leaf.specs.LeafLaws.{part-leaf}
 use Rattle.leaf.specs.Search.{count}
 use Rattle.image.specs.Image.{leaves}
@@ -15,7 +15,7 @@ use Rattle.lists.specs.Lists.{headIn}
 use Rattle.lists.specs.FullLists.{movedSlots}
 use Rattle.lists.specs.FullPut.{moved}
 use Rattle.lists.specs.Bytes.{reads-small}
-use Rattle.split.specs.Full.{HasFullLeaf}
+use Rattle.split.specs.Full.{HasLeaf}
 use Rattle.writing.specs.BlockLaws.{part-head}
 
 module _ (l : List ℕ) (b : ℕ) (right : Right (leaves l b)) (full : count (leaves l b) ≡ 14) where
@@ -26,20 +26,23 @@ module _ (l : List ℕ) (b : ℕ) (right : Right (leaves l b)) (full : count (le
   pub seven-move : length (movedSlots (leaves l b)) ≡ 7
   seven-move = moved (leaves l b) right full .seven
 
-  pub part-seven : length (movedSlots (leafIn part)) ≡ 7
-  part-seven =
-      ap (λ (L : Leaf). length (movedSlots L)) (part-leaf l b (256 * b) (256 * b + 256) refl refl) ∙ seven-move
+  same : leafIn part ≡ leaves l b
+  same = part-leaf l b (256 * b) (256 * b + 256) refl refl
+
+  pub part-right : Right (leafIn part)
+  part-right = subst Right (sym same) right
+
+  pub part-full : count (leafIn part) ≡ 14
+  part-full = ap count same ∙ full
 
   module _ (h : ℕ) (head : h ≡ headIn (reads l) b) where
     pub part-starts : h ≡ headAt part 0
     part-starts = head ∙ sym (part-head l b (256 * b) (256 * b + 256) refl refl)
 
-    pub has-full-leaf : (c : ℕ) → Bytes l → b ≢ c → HasFullLeaf h (leafIn part) b c (reads l)
-    has-full-leaf c bytes apart = record {
+    pub has-leaf : (c : ℕ) → Bytes l → b ≢ c → HasLeaf h (leafIn part) b c (reads l)
+    has-leaf c bytes apart = record {
       head = sym head;
-      leaf = sym (part-leaf l b (256 * b) (256 * b + 256) refl refl);
+      leaf = sym same;
       words = reads-small l bytes;
       apart = apart;
-      right = right;
-      full = full;
     }

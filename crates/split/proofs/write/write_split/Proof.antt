@@ -10,7 +10,6 @@ use Rattle.leaf.specs.Leaf.{Leaf, leafIn}
 use Rattle.lists.specs.Lists.{lowWord, sibPlace}
 use Rattle.lists.specs.FullLists.{movedSlots, newWords}
 use Rattle.emit.specs.Appended.{start-place}
-use Rattle.split.specs.Halves.{moved-below}
 use Rattle.split.specs.Stores.{words-same, switched-same, split-whole}
 use Rattle.split.proofs.write.write_split.Statement.{statement}
 use Rattle.split.proofs.write.write_split.Tie as tie
@@ -18,13 +17,13 @@ use Rattle.split.proofs.write.write_split.Tie as tie
 write-new-leaf-requires : tie.Need-write-new-leaf-requires
 write-new-leaf-requires c κs =
     let s = c .before .before .before .before in
-    (omega arith, omega arith, s .pre .2, (λ i. rw (s .pre .6) (moved-below (s .args .leaf .now) i)), omega arith, s .pre .5)
+    (omega arith, omega arith, s .pre .2, s .pre .3, omega arith, s .pre .6)
 
 old-head-requires : tie.Need-old-head-requires
 old-head-requires c κs =
     let two = c .before .before .before .before .before .before .before in
     let s = two .before .before .before .before .before .before .before .before .before .before .before in
-    (s .pre .2, (λ i. rw (s .pre .6) (moved-below (s .args .leaf .now) i)))
+    (s .pre .2, s .pre .3)
 
 returns : tie.Need-returns
 returns c = λ w eh ev.
@@ -42,9 +41,9 @@ returns c = λ w eh ev.
     split-whole w (a .block) (a .new) (a .key) (a .value) (a .list .now) _ _ _ _
     (newWords (a .up) L (a .moved .now) (a .key) (a .value)) _ _ _
     (omega arith)
-    (ap (λ (M : Leaf). length (movedSlots M)) ev ∙ ap (λ (r : List ℕ). length r) (sym (s .pre .6)) ∙ s .pre .2)
+    (ap (λ (M : Leaf). length (movedSlots M)) ev ∙ ap (λ (r : List ℕ). length r) (sym (s .pre .7)) ∙ s .pre .2)
     (one .write-new-leaf .ensures)
-    (words-same w (a .block) (a .new) (a .key) (a .value) (a .up) L (a .moved .now) ev (s .pre .6) (s .pre .7))
+    (words-same w (a .block) (a .new) (a .key) (a .value) (a .up) L (a .moved .now) ev (s .pre .7) (s .pre .8))
     (two .put-step .ensures)
     (ap (λ (i : ℕ). 32 * a .block + i) (n .sibling-word .ensures)
     ∙ ap (λ (i : ℕ). sibPlace (a .block) (1 - i)) (t .alt .ensures ∙ ap altIn (sym eh)))
@@ -53,7 +52,7 @@ returns c = λ w eh ev.
     (start-place (a .block))
     (z .word0 .ensures
     ∙ ap lowWord (o .old-head .ensures
-    ∙ switched-same w (a .block) (a .new) (a .key) (a .value) (bitsOf (a .head)) L (a .moved .now) eh ev (s .pre .6)))
+    ∙ switched-same w (a .block) (a .new) (a .key) (a .value) (bitsOf (a .head)) L (a .moved .now) eh ev (s .pre .7)))
 
 pub write-split-spec : {M : Type 1} → statement M
 write-split-spec =

@@ -4,7 +4,7 @@ use denote.Ref.{now}
 use Rattle.words.specs.Words.{reads}
 use Rattle.header.specs.Header.{bitsOf}
 use Rattle.writing.specs.PutCounts.{full-some, full-told}
-use Rattle.writing.specs.FullLaws.{seven-move, part-seven, part-starts, has-full-leaf}
+use Rattle.writing.specs.FullLaws.{seven-move, part-right, part-full, part-starts, has-leaf}
 use Rattle.writing.proofs.put.put_full.Statement.{statement}
 use Rattle.writing.proofs.put.put_full.Tie as tie
 
@@ -18,7 +18,8 @@ write-full-put-requires c κs =
       omega arith,
       omega arith,
       part-starts l (a .block) (s .pre .6) (s .pre .7) (bitsOf (a .head)) (s .pre .4),
-      part-seven l (a .block) (s .pre .6) (s .pre .7),
+      part-right l (a .block) (s .pre .6) (s .pre .7),
+      part-full l (a .block) (s .pre .6) (s .pre .7),
     )
 
 full-made-requires : tie.Need-full-made-requires
@@ -31,7 +32,7 @@ full-made-requires c κs =
     full-some (reads l) (a .block) (a .new) (a .key) (a .value) (seven-move l (a .block) (s .pre .6) (s .pre .7))
     (p .write-full-put .result)
     (p .write-full-put .ensures (reads l)
-    (has-full-leaf l (a .block) (s .pre .6) (s .pre .7) (bitsOf (a .head)) (s .pre .4) (a .new)
+    (has-leaf l (a .block) (s .pre .6) (s .pre .7) (bitsOf (a .head)) (s .pre .4) (a .new)
     (λ i. omega (arith, k .shared-slice-known .given i)) (s .pre .5))
     .1)
 
@@ -43,7 +44,7 @@ returns c =
     let a = s .args in
     let l = now (a .image) in
     let y = p .write-full-put .ensures (reads l)
-    (has-full-leaf l (a .block) (s .pre .6) (s .pre .7) (bitsOf (a .head)) (s .pre .4) (a .new)
+    (has-leaf l (a .block) (s .pre .6) (s .pre .7) (bitsOf (a .head)) (s .pre .4) (a .new)
     (λ i. omega (arith, k .shared-slice-known .given i)) (s .pre .5)) in
     full-told (reads l) (a .block) (a .new) (a .key) (a .value) (seven-move l (a .block) (s .pre .6) (s .pre .7))
     (p .write-full-put .result) (y .1)
