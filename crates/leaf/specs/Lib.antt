@@ -5,7 +5,6 @@ pub mod LeafLaws
 pub mod Search
 pub mod SearchLaws
 pub mod SearchSteps
-pub mod Nearest
 pub mod Tally
 pub mod TallySteps
 pub mod TallyLaws

@@ -1,4 +1,4 @@
-// The search in a leaf: a key, the least key from one on, a vacant slot. The leaf is a part of 256 bytes of an image.
+// The search in a leaf: a key, a vacant slot. The leaf is a part of 256 bytes of an image.
 use crate::place::Leaf;
 use header::Header;
 use header::fingerprint_of;
@@ -7,8 +7,7 @@ ghost use Prim.Native.Nat.{_≤_, _<_};
 ghost use lib.ListN.{length};
 ghost use Rattle.header.specs.Header.{headAt, bitsOf, fingerprintOf};
 ghost use Rattle.leaf.specs.Leaf.{leafIn, occIn};
-ghost use Rattle.leaf.specs.Search.{lowest, holdsKey, slotOf, Within, leastFrom, smallestOf, lowestVacant, countTo};
-ghost use Rattle.leaf.specs.Nearest.{excessBy, excessOf, nearerOf, nearestTo};
+ghost use Rattle.leaf.specs.Search.{holdsKey, slotOf, lowestVacant, countTo};
 
 pub enum Slot {
     At(usize),
@@ -72,103 +71,6 @@ pub fn find_slot(leaf: &[u8], key: u64) -> Slot
         s += 1;
     }
     Slot::Missing
-}
-
-// The nearest key at or above k so far: by how much it is above, and its slot. No slot is 14.
-struct Best {
-    excess: u64,
-    slot: usize,
-}
-
-// No key is further above another.
-const FURTHEST: u64 = 18446744073709551615;
-
-fn excess_of(taken: bool, key: u64, k: u64) -> u64
-    ensures { λ r. ⌜ r ≡ excessBy taken key k ⌝ }
-{
-    if taken {
-        if k <= key {
-            return key - k;
-        }
-    }
-    FURTHEST
-}
-
-fn nearer(excess: u64, s: usize, best: Best) -> Best
-    ensures { λ r. ⌜ r ≡ nearerOf excess s best ⌝ }
-{
-    if excess < best.excess {
-        return Best {
-            excess: excess,
-            slot: s,
-        };
-    }
-    best
-}
-
-// The nearer of slot s and the best so far, with no branch that depends on the keys: their order is not to be foreseen.
-fn better(leaf: &[u8], head: Header, k: u64, s: usize, best: Best) -> Best
-    requires { ⌜ (256 ≤ length (now leaf)) × (s < 14) × (bitsOf head ≡ headAt (now leaf) 0) ⌝ }
-    ensures { λ r. ⌜ r ≡ nearerOf (excessOf (leafIn (now (leaf .entry))) k s) s best ⌝ }
-{
-    nearer(excess_of(head.occupied(s), key_at(leaf, s), k), s, best)
-}
-
-fn nearest(leaf: &[u8], head: Header, k: u64) -> Best
-    requires { ⌜ (256 ≤ length (now leaf)) × (bitsOf head ≡ headAt (now leaf) 0) ⌝ }
-    ensures { λ r. ⌜ r ≡ nearestTo (leafIn (now (leaf .entry))) k 14 ⌝ }
-{
-    let mut best = Best {
-        excess: FURTHEST,
-        slot: Leaf::SLOTS,
-    };
-    let mut s = 0;
-    while s < Leaf::SLOTS {
-        best = better(leaf, head, k, s, best);
-        s += 1;
-    }
-    best
-}
-
-fn lowest_taken(head: Header) -> Slot
-    ensures { λ r. ⌜ r ≡ lowest (occIn (bitsOf head)) 14 0 ⌝ }
-{
-    let mut s = 0;
-    while s < Leaf::SLOTS {
-        if head.occupied(s) {
-            return Slot::At(s);
-        }
-        s += 1;
-    }
-    Slot::Missing
-}
-
-// The occupied slot with the smallest key at or above k: from the least key on this steps through a leaf in rising order. Above 0
-// none is nearer than the furthest where every key is the largest word, or there is none.
-pub fn least_from(leaf: &[u8], k: u64) -> Slot
-    requires { ⌜ 256 ≤ length (now leaf) ⌝ }
-    ensures { λ r. ⌜ (r ≡ leastFrom (leafIn (now (leaf .entry))) k) × Within 14 r ⌝ }
-{
-    let head = Header::read(leaf, 0);
-    let best = nearest(leaf, head, k);
-    if best.slot < Leaf::SLOTS {
-        return Slot::At(best.slot);
-    }
-    if k == 0 {
-        return lowest_taken(head);
-    }
-    Slot::Missing
-}
-
-// The smallest key, 0 where the leaf is empty.
-pub fn smallest_key(leaf: &[u8]) -> u64
-    requires { ⌜ 256 ≤ length (now leaf) ⌝ }
-    ensures { λ r. ⌜ r ≡ smallestOf (leafIn (now (leaf .entry))) ⌝ }
-{
-    match least_from(leaf, 0) {
-        Slot::At(s) => key_at(leaf, s),
-        Slot::Missing => 0,
-    }
 }
 
 pub fn lowest_vacant(head: Header) -> Slot

@@ -6,9 +6,7 @@ use leaf::place::Leaf;
 use leaf::search::Slot;
 use leaf::search::entries;
 use leaf::search::find_slot;
-use leaf::search::least_from;
 use leaf::search::lowest_vacant;
-use leaf::search::smallest_key;
 use leaf::tally::has_twins;
 use leaf::tally::tally_of;
 use libc::STDOUT_FILENO;
@@ -17,7 +15,7 @@ ghost use mathlib.Core.Path.{_≡_};
 ghost use lib.ListN.{length};
 
 // A slot as a number: 14 where there is none.
-fn number_of(slot: Slot) -> u64 {
+fn as_number(slot: Slot) -> u64 {
     match slot {
         Slot::At(s) => s as u64,
         Slot::Missing => 14,
@@ -44,7 +42,7 @@ fn enter(leaf: &mut [u8], s: usize, key: u64, print: u8)
     words::set_word(leaf, 8, head.high);
 }
 
-// Entries, smallest key, lowest vacant slot, slots with a wrong fingerprint, whether two keys are equal.
+// Entries, smallest key (the largest word where there is none), lowest vacant slot, slots with a wrong fingerprint, whether two keys are equal.
 fn tell_leaf(leaf: &[u8])
     requires { ⌜ 256 ≤ length (now leaf) ⌝ }
 {
@@ -52,8 +50,8 @@ fn tell_leaf(leaf: &[u8])
     let mut stamps = [0u8; 256];
     let t = tally_of(leaf, head, &mut stamps, 1);
     tell(entries(head));
-    tell(smallest_key(leaf));
-    tell(number_of(lowest_vacant(head)));
+    tell(t.least);
+    tell(as_number(lowest_vacant(head)));
     tell(t.wrong);
     if has_twins(leaf, head, t.hits) {
         tell(1);
@@ -63,12 +61,11 @@ fn tell_leaf(leaf: &[u8])
     end_line();
 }
 
-// Where the key stands, and the slot of the least key from it on.
+// Where the key stands.
 fn tell_key(leaf: &[u8], key: u64)
     requires { ⌜ 256 ≤ length (now leaf) ⌝ }
 {
-    tell(number_of(find_slot(leaf, key)));
-    tell(number_of(least_from(leaf, key)));
+    tell(as_number(find_slot(leaf, key)));
     end_line();
 }
 
