@@ -1,6 +1,6 @@
 -- Numbers: a field is read as n exactly when it is n's decimal spelling and n is below 2^64.
 use mathlib.Core.Path.{_≡_, refl, ap, sym, _∙_}
-use mathlib.Core.Bool.{Bool, true, false}
+use mathlib.Core.Bool.{Bool, true, false, cond}
 use mathlib.Core.Logic.{_≢_}
 use mathlib.Core.List.{List, [], _∷_, _++_, append-nil}
 use Prim.Native.Nat.{ℕ, zero, suc, _+_, _-_, _*_, _/_, _%_, _^_, _≤_, _<_}
@@ -12,7 +12,7 @@ use lib.Dec.{eqb, ltb}
 use lib.ListN.{length, length-append}
 use lib.Seq.{append-snoc}
 use Rattle.command.specs.Spelling.{digits, decimal}
-use Rattle.command.specs.Reading.{pick, byte-zero, byte-nine, digitOf, closed, most, grown, grownBy}
+use Rattle.command.specs.Reading.{byte-zero, byte-nine, digitOf, closed, most, grown, grownBy}
 use Rattle.command.specs.Reading.{pushed, pushedAll, numberOf}
 use Rattle.command.specs.declared.number.Number.{Number}
 use Rattle.command.specs.declared.number.Number.the-variants.{Is, Not}
@@ -106,7 +106,7 @@ digit-read : (b d : ℕ) → digitOf b ≡ Is d → (b ≡ 48 + d) × (d < 10)
 digit-read b d = go (ltb b byte-zero) (ltb byte-nine b) refl refl
   where
     go : (s t : Bool) → ltb b byte-zero ≡ s → ltb byte-nine b ≡ t
-        → pick s Not (pick t Not (Is (b - byte-zero))) ≡ Is d → (b ≡ 48 + d) × (d < 10)
+        → cond s Not (cond t Not (Is (b - byte-zero))) ≡ Is d → (b ≡ 48 + d) × (d < 10)
     go true t es et e = absurd (let z : _≡_ {A = ℕ} 0 1 = cc in omega arith)
     go false true es et e = absurd (let z : _≡_ {A = ℕ} 0 1 = cc in omega arith)
     go false false es et e =
@@ -117,7 +117,7 @@ grown-read : (n d m : ℕ) → grown n d ≡ Is m → (n ≢ closed) × (m ≡ n
 grown-read n d m = go (eqb n closed) (ltb most (n * 10 + d)) refl refl
   where
     go : (s t : Bool) → eqb n closed ≡ s → ltb most (n * 10 + d) ≡ t
-        → pick s Not (pick t Not (Is (n * 10 + d))) ≡ Is m → (n ≢ closed) × (m ≡ n * 10 + d) × (m < 2 ^ 64)
+        → cond s Not (cond t Not (Is (n * 10 + d))) ≡ Is m → (n ≢ closed) × (m ≡ n * 10 + d) × (m < 2 ^ 64)
     go true t es et e = absurd (let z : _≡_ {A = ℕ} 0 1 = cc in omega arith)
     go false true es et e = absurd (let z : _≡_ {A = ℕ} 0 1 = cc in omega arith)
     go false false es et e =

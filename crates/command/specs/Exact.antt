@@ -1,6 +1,6 @@
 -- A line is read as the command c exactly when its bytes are the spelling of c; every other line is malformed.
 use mathlib.Core.Path.{_≡_, refl, ap, sym, _∙_, subst}
-use mathlib.Core.Bool.{Bool, true, false}
+use mathlib.Core.Bool.{Bool, true, false, cond}
 use mathlib.Core.Logic.{_≢_, _↔_}
 use mathlib.Core.Option.{none, some}
 use mathlib.Core.List.{List, [], _∷_, _++_}
@@ -11,8 +11,9 @@ use borrow.Author.Tests.{eqb-true, ne-eqb}
 use lib.Dec.{eqb}
 use lib.ListN.{length, getD, take, drop, length-append, length-drop, drop-of-length-le}
 use lib.Seq.{take-at, drop-at, drop-drop, split-at, append-snoc}
+use Rattle.words.specs.Bools.{both, by-test}
 use Rattle.command.specs.Spelling.{decimal, put-word, set-word, del-word, get-word, list-word, spelling, InRange}
-use Rattle.command.specs.Reading.{pick, both, until, begins, numberOf, fieldOf, fieldAt, pairOf, pairFrom, pairAt}
+use Rattle.command.specs.Reading.{until, begins, numberOf, fieldOf, fieldAt, pairOf, pairFrom, pairAt}
 use Rattle.command.specs.Reading.{past-tab, tabbed, asPut, asSet, asDel, asGet, parseOf}
 use Rattle.command.specs.Decimal.{by-digits, decimal-small, decimal-more, decimal-some, number-decimal, number-read}
 use Rattle.command.specs.declared.Command.{Command}
@@ -99,8 +100,8 @@ unfolding until
 until-found b [] h = absurd (not-suc-le-zero h)
 until-found b (x ∷ l) h = go (eqb x b) refl h (until-found b l)
   where
-    go : (t : Bool) → eqb x b ≡ t → pick t 0 (suc (until b l)) < suc (length l)
-        → (until b l < length l → getD l (until b l) 0 ≡ b) → getD (x ∷ l) (pick t 0 (suc (until b l))) 0 ≡ b
+    go : (t : Bool) → eqb x b ≡ t → cond t 0 (suc (until b l)) < suc (length l)
+        → (until b l < length l → getD l (until b l) 0 ≡ b) → getD (x ∷ l) (cond t 0 (suc (until b l))) 0 ≡ b
     go true e h ih = eqb-true x b e
     go false e h ih = ih (omega arith)
 
@@ -136,10 +137,6 @@ begins-read (a ∷ w) (b ∷ l) e = go (eqb b a) refl e (begins-read w l)
     go true eb e ih = cc (eqb-true b a eb, ih e)
     go false eb e ih = absurd (let z : _≡_ {A = ℕ} 0 1 = cc in omega arith)
 
-by-test : (P : Command → Type 0) (t : Bool) (a b : Command) → (t ≡ true → P a) → (t ≡ false → P b) → P (pick t a b)
-by-test P true a b f g = f refl
-by-test P false a b f g = g refl
-
 -- c is no command, or is the one that the line spells
 Spelled : List ℕ → Command → Type 0
 Spelled line c = c ≢ Malformed → (spelling c ≡ some line) × InRange c
@@ -147,7 +144,6 @@ Spelled line c = c ≢ Malformed → (spelling c ≡ some line) × InRange c
 read-spelled : (line : List ℕ) → Spelled line (parseOf line)
 unfolding parseOf Spelled
 read-spelled line =
-    let test = by-test (Spelled line) in
     test (begins (tabbed put-word) line) _ _
     (λ b. pair-cases (λ p. Spelled line (asPut p)) line 4 (λ k v e hk hv _. (whole (tabbed put-word) b e, (hk, hv))) not)
     (λ _. test (begins (tabbed set-word) line) _ _
@@ -159,6 +155,9 @@ read-spelled line =
     (λ _. test (eqb (length line) 4) _ _
     (λ four. test (begins list-word line) _ _ (λ b _. (whole list-word b (drop-all four), tt)) (λ _. not)) (λ _. not)))))
   where
+    test : (t : Bool) (a b : Command) → (t ≡ true → Spelled line a) → (t ≡ false → Spelled line b) → Spelled line (cond t a b)
+    test t a b = by-test (λ x. Spelled line (cond x a b)) t
+
     not : Spelled line Malformed
     not no-command = absurd (no-command refl)
 

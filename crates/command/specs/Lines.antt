@@ -1,6 +1,6 @@
 -- Reading line after line visits the lines of the input, all of them and in order.
 use mathlib.Core.Path.{_≡_, refl, ap, _∙_}
-use mathlib.Core.Bool.{Bool, true, false}
+use mathlib.Core.Bool.{Bool, true, false, cond}
 use mathlib.Core.List.{List, [], _∷_, map}
 use Prim.Native.Nat.{ℕ, suc, _+_, _≤_, _<_}
 use native.Mathlib.Nat.{not-suc-le-zero}
@@ -11,7 +11,7 @@ use lib.Dec.{eqb, ltb}
 use lib.ListN.{length, take, drop, length-drop, drop-of-length-le}
 use lib.Seq.{drop-drop}
 use Rattle.command.specs.Spelling.{onto, before, linesOf}
-use Rattle.command.specs.Reading.{pick, until, parseOf, past-line, lineAt}
+use Rattle.command.specs.Reading.{until, parseOf, past-line, lineAt}
 use Rattle.command.specs.ReadingLaws.{until-within}
 use Rattle.command.specs.declared.Command.{Command}
 use Rattle.command.specs.declared.Next.{Next}
@@ -23,14 +23,14 @@ unfolding linesOf until
 first-line [] h = absurd (not-suc-le-zero h)
 first-line (b ∷ []) h = go (eqb b 10)
   where
-    go : (t : Bool) → before t b [] ≡ take (pick t 0 1) (b ∷ []) ∷ linesOf (drop (suc (pick t 0 1)) (b ∷ []))
+    go : (t : Bool) → before t b [] ≡ take (cond t 0 1) (b ∷ []) ∷ linesOf (drop (suc (cond t 0 1)) (b ∷ []))
     go true = refl
     go false = refl
 first-line (b ∷ c ∷ l) h = go (eqb b 10) (until 10 (c ∷ l)) (first-line (c ∷ l) (omega arith))
   where
     go : (t : Bool) (n : ℕ) → linesOf (c ∷ l) ≡ take n (c ∷ l) ∷ linesOf (drop (suc n) (c ∷ l))
         → before t b (linesOf (c ∷ l))
-        ≡ take (pick t 0 (suc n)) (b ∷ c ∷ l) ∷ linesOf (drop (suc (pick t 0 (suc n))) (b ∷ c ∷ l))
+        ≡ take (cond t 0 (suc n)) (b ∷ c ∷ l) ∷ linesOf (drop (suc (cond t 0 (suc n))) (b ∷ c ∷ l))
     go true n ih = refl
     go false n ih = ap (onto b) ih
 
@@ -68,7 +68,7 @@ unfolding lineAt
 line-later l at c next e = go (ltb at (length l)) refl e
   where
     go : (t : Bool) → ltb at (length l) ≡ t
-        → pick t (Line (parseOf (take (until 10 (drop at l)) (drop at l))) (past-line (at + until 10 (drop at l)))) End
+        → cond t (Line (parseOf (take (until 10 (drop at l)) (drop at l))) (past-line (at + until 10 (drop at l)))) End
         ≡ Line c next
         → (at < next) × (next ≤ length l + 1)
     go true t e =

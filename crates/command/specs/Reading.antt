@@ -1,9 +1,10 @@
 -- What each function that reads answers, in the shape of its code. What it means is proved in Exact and Lines.
 use Prim.Native.Nat.{ℕ, suc, _+_, _-_, _*_}
-use mathlib.Core.Bool.{Bool, true, false}
+use mathlib.Core.Bool.{Bool, true, false, cond}
 use mathlib.Core.List.{List, [], _∷_, _++_}
 use lib.Dec.{eqb, ltb}
 use lib.ListN.{length, take, drop}
+use Rattle.words.specs.Bools.{both}
 use Rattle.command.specs.Spelling.{put-word, set-word, del-word, get-word, list-word}
 use Rattle.command.specs.declared.Command.{Command}
 use Rattle.command.specs.declared.Command.the-variants.{Put, Set, Del, Get, List as Listing, Malformed}
@@ -16,18 +17,10 @@ use Rattle.command.specs.declared.number.Number.the-variants.{Is, Not}
 use Rattle.command.specs.declared.Pair.{Pair}
 use Rattle.command.specs.declared.Pair.the-variants.{Both, Nothing as no-pair}
 
-abbrev pub pick : {A : Type 0} → Bool → A → A → A
-pick true a b = a
-pick false a b = b
-
-abbrev pub both : Bool → Bool → Bool
-both true b = b
-both false b = false
-
 -- how many bytes stand before the first b
 unfoldable pub until : ℕ → List ℕ → ℕ
 until b [] = 0
-until b (x ∷ xs) = pick (eqb x b) 0 (suc (until b xs))
+until b (x ∷ xs) = cond (eqb x b) 0 (suc (until b xs))
 
 -- the list begins with the word
 unfoldable pub begins : List ℕ → List ℕ → Bool
@@ -43,7 +36,7 @@ abbrev pub byte-nine : ℕ
 byte-nine = 57
 
 abbrev pub digitOf : ℕ → Number
-digitOf b = pick (ltb b byte-zero) Not (pick (ltb byte-nine b) Not (Is (b - byte-zero)))
+digitOf b = cond (ltb b byte-zero) Not (cond (ltb byte-nine b) Not (Is (b - byte-zero)))
 
 -- the number that takes no digit behind it, so that none has a leading zero, and the largest, 2^64 - 1
 abbrev pub closed : ℕ
@@ -54,7 +47,7 @@ most = 18446744073709551615
 
 -- n with a digit behind it
 abbrev pub grown : ℕ → ℕ → Number
-grown n d = pick (eqb n closed) Not (pick (ltb most (n * 10 + d)) Not (Is (n * 10 + d)))
+grown n d = cond (eqb n closed) Not (cond (ltb most (n * 10 + d)) Not (Is (n * 10 + d)))
 
 abbrev pub grownBy : ℕ → Number → Number
 grownBy n (Is d) = grown n d
@@ -118,11 +111,11 @@ tabbed word = word ++ 9 ∷ []
 
 unfoldable pub parseOf : List ℕ → Command
 parseOf l =
-    pick (begins (tabbed put-word) l) (asPut (pairAt l 4))
-    (pick (begins (tabbed set-word) l) (asSet (pairAt l 4))
-    (pick (begins (tabbed del-word) l) (asDel (restAt l 4))
-    (pick (begins (tabbed get-word) l) (asGet (restAt l 4))
-    (pick (eqb (length l) 4) (pick (begins list-word l) Listing Malformed) Malformed))))
+    cond (begins (tabbed put-word) l) (asPut (pairAt l 4))
+    (cond (begins (tabbed set-word) l) (asSet (pairAt l 4))
+    (cond (begins (tabbed del-word) l) (asDel (restAt l 4))
+    (cond (begins (tabbed get-word) l) (asGet (restAt l 4))
+    (cond (eqb (length l) 4) (cond (begins list-word l) Listing Malformed) Malformed))))
 
 -- the place behind the byte 10 that ends a line
 abbrev pub past-line : ℕ → ℕ
@@ -131,6 +124,6 @@ past-line end = end + 1
 -- the line that starts at a place of the input
 unfoldable pub lineAt : List ℕ → ℕ → Next
 lineAt l at =
-    pick (ltb at (length l))
+    cond (ltb at (length l))
     (Line (parseOf (take (until 10 (drop at l)) (drop at l))) (past-line (at + until 10 (drop at l))))
     End

@@ -1,6 +1,6 @@
 -- What one turn of each loop that reads does to the answer of its rest, and where fields and lines end.
 use mathlib.Core.Path.{_≡_, refl, ap, ap₂, sym, _∙_}
-use mathlib.Core.Bool.{Bool, true, false}
+use mathlib.Core.Bool.{Bool, true, false, cond}
 use mathlib.Core.Logic.{_≢_}
 use mathlib.Core.List.{List, [], _∷_}
 use Prim.Native.Nat.{ℕ, suc, _+_, _-_, _≤_, _<_}
@@ -12,7 +12,8 @@ use borrow.Author.Tests.{eq-eqb, ne-eqb}
 use lib.Dec.{eqb}
 use lib.ListN.{length, getD, take, drop, length-drop, drop-of-length-le}
 use lib.Seq.{drop-cons}
-use Rattle.command.specs.Reading.{pick, both, until, begins, pushed, pushedAll, digitOf, numberOf, fieldOf, fieldAt}
+use Rattle.words.specs.Bools.{both-none}
+use Rattle.command.specs.Reading.{until, begins, pushed, pushedAll, digitOf, numberOf, fieldOf, fieldAt}
 use Rattle.command.specs.declared.number.Number.{Number}
 use Rattle.command.specs.declared.number.Number.the-variants.{Is, Not}
 use Rattle.command.specs.declared.Field.the-variants.{Number as number, Nothing as no-field}
@@ -37,7 +38,7 @@ unfolding until
 until-le b [] = omega arith
 until-le b (x ∷ xs) = go (eqb x b) (until-le b xs)
   where
-    go : (t : Bool) → until b xs ≤ length xs → pick t 0 (suc (until b xs)) ≤ suc (length xs)
+    go : (t : Bool) → until b xs ≤ length xs → cond t 0 (suc (until b xs)) ≤ suc (length xs)
     go true ih = omega arith
     go false ih = omega arith
 
@@ -61,11 +62,7 @@ pub begins-short : (w l : List ℕ) → length l < length w → begins w l ≡ f
 unfolding begins
 begins-short [] l h = absurd (not-suc-le-zero h)
 begins-short (a ∷ w) [] h = refl
-begins-short (a ∷ w) (b ∷ l) h = rw (begins-short w l (le-of-suc-le-suc h)) (never (eqb b a))
-  where
-    never : (t : Bool) → both t false ≡ false
-    never true = refl
-    never false = refl
+begins-short (a ∷ w) (b ∷ l) h = rw (begins-short w l (le-of-suc-le-suc h)) (both-none (eqb b a))
 
 -- ---- the digits of a field
 

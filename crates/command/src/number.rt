@@ -1,18 +1,12 @@
 // A field read as a number: decimal, with no sign and no leading zero but 0 itself, at most 2^64 - 1.
+use words::wide;
 ghost use mathlib.Core.Path.{_≡_};
-ghost use Prim.Native.Nat.{_<_};
 ghost use Rattle.command.specs.Reading.{digitOf, grown, pushed, numberOf};
 
 // The number that bytes spell, or that they spell none.
 pub enum Number {
     Is(u64),
     Not,
-}
-
-fn wide(byte: u8) -> u64
-    ensures { λ r. ⌜ (r ≡ byte) × (r < 256) ⌝ }
-{
-    byte as u64
 }
 
 fn digit(byte: u8) -> Number

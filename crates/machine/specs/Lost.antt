@@ -2,15 +2,16 @@
 -- settled ones by one over the steps before the last fence, where a store is settled if its line had a write-back.
 use Prim.Native.Nat.{ℕ, _/_, _<_, _≤_}
 use native.Mathlib.Omega.{arith}
-use mathlib.Core.Bool.{Bool, true, false, not, _&&_, _||_, false≢true}
+use mathlib.Core.Bool.{Bool, true, false, not, _||_, false≢true}
 use mathlib.Core.List.{List}
 use mathlib.Core.Path.{_≡_, refl, sym, ap, _∙_}
 use mathlib.Core.Logic.{inl, inr}
 use lib.ListN.{length, getD}
 use lib.Dec.{ltb, leb, eqb}
 use borrow.Author.Tests.{ltb-true, lt-ltb, leb-true, le-leb, eqb-true, eq-eqb, ne-eqb}
+use Rattle.words.specs.Bools.{both, both-true, same-test, or-true, or-right}
 use Rattle.steps.specs.Below.{anyBelow, one}
-use Rattle.steps.specs.BelowLaws.{same-test, and-true, or-true, or-right, any-make, any-at, any-cong, count-nth, count-sub}
+use Rattle.steps.specs.BelowLaws.{any-make, any-at, any-cong, count-nth, count-sub}
 use Rattle.steps.specs.Model.{Steps, line, storesTo, made, arrives, rule01, isSettled, settlesIn, settled}
 use Rattle.steps.specs.declared.Step.{Step}
 use Rattle.steps.specs.declared.Step.the-variants.{Store as store, WriteBack as writeBack, Fence as fence}
@@ -28,7 +29,7 @@ isAbove list n arrivals l = ltb (made line (stepAt list) n l) (arrived arrivals 
 
 -- step i is a store that the fence at `last` settles, and did not arrive
 abbrev pub isLost : Steps → ℕ → List ℕ → ℕ → Step → Bool
-isLost s last arrivals i (store p v) = hadBack s last (line p) && leb (arrived arrivals (line p)) (made line s i (line p))
+isLost s last arrivals i (store p v) = both (hadBack s last (line p)) (leb (arrived arrivals (line p)) (made line s i (line p)))
 isLost s last arrivals i (writeBack k) = false
 isLost s last arrivals i fence = false
 
@@ -44,7 +45,7 @@ aboveBy table arrivals l = ltb (getD table l 0) (arrived arrivals l)
 
 abbrev pub lostBy : List ℕ → List ℕ → List ℕ → Step → Bool
 lostBy backs seen arrivals (store p v) =
-    not (eqb (getD backs (line p) 0) 0) && leb (arrived arrivals (line p)) (getD seen (line p) 0)
+    both (not (eqb (getD backs (line p) 0) 0)) (leb (arrived arrivals (line p)) (getD seen (line p) 0))
 lostBy backs seen arrivals (writeBack k) = false
 lostBy backs seen arrivals fence = false
 
@@ -100,7 +101,7 @@ module _ (list : List ℕ) (n : ℕ) (arrivals : List ℕ) (lines : ℕ)
     where
       go : (i : ℕ) (x : Step) → s i ≡ x → i < lastFence s n → isLost s (lastFence s n) arrivals i x ≡ true → Below
       go i (store p v) d h t =
-          let y = and-true (hadBack s (lastFence s n) (line p)) (leb (arrived arrivals (line p)) (made line s i (line p))) t in
+          let y = both-true (hadBack s (lastFence s n) (line p)) (leb (arrived arrivals (line p)) (made line s i (line p))) t in
           let r : isSettled rule01 s n i (line p) ≡ true =
           settled-reach s n i (line p) ∙ rw (y .0) (lt-ltb i (lastFence s n) h) in
           let k : i < n = omega (arith, fence-below s n) in
@@ -120,7 +121,7 @@ module _ (list : List ℕ) (n : ℕ) (arrivals : List ℕ) (lines : ℕ)
       go : (i : ℕ) (x : Step) → s i ≡ x → settlesIn line rule01 s n l i x ≡ true → arrived arrivals l ≤ made line s i l
           → lost list n arrivals ≡ true
       go i (store p v) d t m =
-          let y = and-true (eqb (line p) l) (isSettled rule01 s n i (line p)) t in
+          let y = both-true (eqb (line p) l) (isSettled rule01 s n i (line p)) t in
           let q : line p ≡ l = eqb-true (line p) l (y .0) in
           let r = in-reach s (lastFence s n) (line p) i (ltb-true i _ (sym (settled-reach s n i (line p)) ∙ y .1)) in
           any-make (lostAt list (lastFence s n) arrivals) (lastFence s n) i (r .1)

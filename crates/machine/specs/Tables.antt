@@ -10,8 +10,9 @@ use lib.ListN.{length, getD, set, replicate, length-set, List·getD-eq-default}
 use lib.Seq.{getD-set-same, getD-set-other}
 use lib.Dec.{eqb}
 use borrow.Author.Tests.{eq-eqb, ne-eqb}
+use Rattle.words.specs.Bools.{or-right, or-none}
 use Rattle.steps.specs.Below.{one}
-use Rattle.steps.specs.BelowLaws.{count-most, or-right, or-none}
+use Rattle.steps.specs.BelowLaws.{count-most}
 use Rattle.steps.specs.Model.{Steps, line, storesTo, made}
 use Rattle.steps.specs.LastFence.{hadBack}
 use Rattle.steps.specs.declared.Step.{Step}

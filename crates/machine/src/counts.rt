@@ -2,6 +2,7 @@
 // write-back. A table has a byte for each line, since a list has at most 56 steps.
 use crate::list::step_at;
 use steps::Step;
+use words::wide;
 ghost use mathlib.Core.Path.{_≡_};
 ghost use Prim.Native.Nat.{_*_, _≤_};
 ghost use lib.ListN.{length, getD};
@@ -32,12 +33,6 @@ pub fn last_fence(list: &[u64], n: usize) -> usize
         i += 1;
     }
     last
-}
-
-fn wide(byte: u8) -> u64
-    ensures { λ r. ⌜ r ≡ byte ⌝ }
-{
-    byte as u64
 }
 
 // What a table has for a line; 0 where it has no such line.

@@ -3,14 +3,11 @@
 // call, and its bytes 0, 8 and 64 follow.
 use libc::STDOUT_FILENO;
 use machine::Ran;
+use words::wide;
 
 const BACK: u64 = 4294967296;
 
 const FENCE: u64 = 8589934592;
-
-fn wide(byte: u8) -> u64 {
-    byte as u64
-}
 
 fn space(value: u64) {
     io::write_all(STDOUT_FILENO, b" ");

@@ -3,12 +3,11 @@ use Prim.Native.Nat.{ℕ, zero, suc, _+_, _-_, _<_, _≤_}
 use native.Mathlib.Nat.{add-suc, add-zero}
 use native.Mathlib.Omega.{arith}
 use native.Mathlib.Decide.{decLt}
-use mathlib.Core.Bool.{Bool, true, false, _&&_, _||_, true≢false, false≢true}
+use mathlib.Core.Bool.{Bool, true, false, _||_, true≢false, false≢true}
 use mathlib.Core.Path.{_≡_, refl, sym, ap, _∙_}
-use mathlib.Core.Logic.{_⊎_, inl, inr}
 use lib.Dec.{ltb}
 use borrow.Author.Tests.{ltb-true, lt-ltb}
-use Rattle.words.specs.Bools.{by-test}
+use Rattle.words.specs.Bools.{by-test, same-test, or-right}
 use Rattle.steps.specs.Below.{anyBelow, one, countBelow}
 
 -- ---- going by cases
@@ -26,37 +25,9 @@ climb P i (suc d) b f =
 pub grow : (P : ℕ → Type 0) (i j : ℕ) → i ≤ j → P i → ((n : ℕ) → i ≤ n → n < j → P n → P (suc n)) → P j
 grow P i j h b f = let e : j ≡ i + (j - i) = omega arith in rw e (climb P i (j - i) b (λ n l k. f n l (omega arith)))
 
--- two tests that follow from each other
-pub same-test : (b c : Bool) → (b ≡ true → c ≡ true) → (c ≡ true → b ≡ true) → b ≡ c
-same-test true c f g = sym (f refl)
-same-test false true f g = g refl
-same-test false false f g = refl
-
 pub same-ltb : (a b c d : ℕ) → (a < b → c < d) → (c < d → a < b) → ltb a b ≡ ltb c d
 same-ltb a b c d f g =
     same-test (ltb a b) (ltb c d) (λ e. lt-ltb c d (f (ltb-true a b e))) (λ e. lt-ltb a b (g (ltb-true c d e)))
-
--- ---- two tests in one
-
-pub and-true : (b c : Bool) → b && c ≡ true → (b ≡ true) × (c ≡ true)
-and-true true c e = (refl, e)
-and-true false c e = absurd (false≢true e)
-
-pub or-true : (b c : Bool) → b || c ≡ true → (b ≡ true) ⊎ (c ≡ true)
-or-true true c e = inl refl
-or-true false c e = inr e
-
-pub or-right : (b c : Bool) → c ≡ true → b || c ≡ true
-or-right true c e = refl
-or-right false c e = e
-
-pub or-none : (b : Bool) → b || false ≡ b
-or-none true = refl
-or-none false = refl
-
-pub or-false : (b c : Bool) → b || c ≡ false → (b ≡ false) × (c ≡ false)
-or-false true c e = absurd (true≢false e)
-or-false false c e = (refl, e)
 
 -- ---- at one of them
 

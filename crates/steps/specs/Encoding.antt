@@ -1,10 +1,11 @@
 -- How a list holds its steps: document 01's first paragraph on steps. To be believed.
 -- "In a list each takes two 64-bit words."
 use Prim.Native.Nat.{ℕ, _+_, _-_, _*_, _/_}
-use mathlib.Core.Bool.{Bool, true, cond, _&&_}
+use mathlib.Core.Bool.{Bool, true, cond}
 use mathlib.Core.List.{List, [], _∷_, _++_}
 use lib.ListN.{length, getD, set, drop}
 use lib.Dec.{ltb, eqb}
+use Rattle.words.specs.Bools.{both}
 use Rattle.steps.specs.Model.{Step, store, writeBack, fence, Steps}
 
 -- "A store has the byte place (..) and the value; a write-back has 2^32 plus the number of a line (..), and 0; a fence has
@@ -31,7 +32,7 @@ decode a b = cond (ltb a 4294967296) (store (a / 8) b) (cond (ltb a 8589934592) 
 
 -- "Every other pair is malformed": one that is not the two words of a step inside the image.
 abbrev pub isPair : ℕ → Step → ℕ → ℕ → Bool
-isPair z x a b = inImage z x && (eqb (first x) a && eqb (second x) b)
+isPair z x a b = both (inImage z x) (both (eqb (first x) a) (eqb (second x) b))
 
 abbrev pub wellFormed : ℕ → ℕ → ℕ → Bool
 wellFormed z a b = isPair z (decode a b) a b

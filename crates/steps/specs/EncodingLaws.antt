@@ -2,15 +2,14 @@
 -- after its steps were written into it one by one.
 use Prim.Native.Nat.{ℕ, zero, suc, _+_, _-_, _*_, _<_, _≤_, _/_, _^_}
 use native.Mathlib.Omega.{arith}
-use mathlib.Core.Bool.{true, cond, _&&_}
+use mathlib.Core.Bool.{true, cond}
 use mathlib.Core.List.{List, [], _∷_, _++_, append-assoc}
 use mathlib.Core.Path.{_≡_, refl, sym, ap, ap₂, _∙_}
 use lib.ListN.{length, getD, set, drop, length-append, length-drop}
 use lib.Seq.{drop-cons, set-at}
 use lib.Dec.{ltb, eqb}
 use borrow.Author.Tests.{ltb-true, ltb-false, lt-ltb, le-ltb, eqb-true, eq-eqb}
-use Rattle.words.specs.Bools.{by-test}
-use Rattle.steps.specs.BelowLaws.{and-true}
+use Rattle.words.specs.Bools.{both, both-true, by-test}
 use Rattle.steps.specs.Model.{Step, store, writeBack, fence}
 use Rattle.steps.specs.Encoding.{first, second, inImage, decode, isPair, wellFormed, stepAt, formedAt}
 use Rattle.steps.specs.Encoding.{stepsOf, encode, written, putStep}
@@ -44,8 +43,8 @@ pub record Pair (z : ℕ) (x : Step) (a b : ℕ) : Type 0 where
 
 pub pair-of : (z : ℕ) (x : Step) (a b : ℕ) → isPair z x a b ≡ true → Pair z x a b
 pair-of z x a b e =
-    let y = and-true (inImage z x) (eqb (first x) a && eqb (second x) b) e in
-    let w = and-true (eqb (first x) a) (eqb (second x) b) (y .1) in
+    let y = both-true (inImage z x) (both (eqb (first x) a) (eqb (second x) b)) e in
+    let w = both-true (eqb (first x) a) (eqb (second x) b) (y .1) in
     record { inside = y .0; first-is = eqb-true (first x) a (w .0); second-is = eqb-true (second x) b (w .1) }
 
 -- the first word of a decoded step fits in a word

@@ -4,8 +4,9 @@
 -- unit of a word, whose stores arrive in order: it is the word's line here. `rule` is what a store, a write-back and a
 -- fence have to do with each other for the store to be settled.
 use Prim.Native.Nat.{ℕ, zero, suc, _≤_, _/_}
-use mathlib.Core.Bool.{Bool, true, false, cond, _&&_}
+use mathlib.Core.Bool.{Bool, true, false, cond}
 use lib.Dec.{ltb, eqb}
+use Rattle.words.specs.Bools.{both}
 use Rattle.steps.specs.Below.{anyBelow, countBelow}
 pub use Rattle.steps.specs.declared.Step.{Step}
 pub use Rattle.steps.specs.declared.Step.the-variants.{Store as store, WriteBack as writeBack, Fence as fence}
@@ -73,11 +74,11 @@ abbrev pub rule01 : Rule
 rule01 i j k = ltb i k
 
 unfoldable pub isSettled : Rule → Steps → ℕ → ℕ → ℕ → Bool
-isSettled rule s n i l = anyBelow (λ k. isFence (s k) && anyBelow (λ j. writesBack l (s j) && rule i j k) k) n
+isSettled rule s n i l = anyBelow (λ k. both (isFence (s k)) (anyBelow (λ j. both (writesBack l (s j)) (rule i j k)) k)) n
 
 -- is step i a settled store to the unit u; and how many of the first n steps are one
 abbrev pub settlesIn : (ℕ → ℕ) → Rule → Steps → ℕ → ℕ → ℕ → Step → Bool
-settlesIn unit rule s n u i (store p v) = eqb (unit p) u && isSettled rule s n i (line p)
+settlesIn unit rule s n u i (store p v) = both (eqb (unit p) u) (isSettled rule s n i (line p))
 settlesIn unit rule s n u i (writeBack k) = false
 settlesIn unit rule s n u i fence = false
 

@@ -4,13 +4,13 @@
 use Prim.Native.Nat.{ℕ, suc, _+_, _<_, _≤_}
 use native.Mathlib.Omega.{arith}
 use native.Mathlib.Decide.{decLe}
-use mathlib.Core.Bool.{Bool, true, _&&_, false≢true}
+use mathlib.Core.Bool.{Bool, true, false≢true}
 use mathlib.Core.Path.{_≡_, refl, sym, ap, _∙_}
 use lib.Dec.{eqb}
 use borrow.Author.Tests.{eqb-true, eq-eqb}
-use Rattle.words.specs.Bools.{by-test}
+use Rattle.words.specs.Bools.{both, both-true, by-test}
 use Rattle.steps.specs.Below.{anyBelow, countBelow}
-use Rattle.steps.specs.BelowLaws.{and-true, any-make, any-at, count-le, count-hit, count-nth, count-cong, count-sub}
+use Rattle.steps.specs.BelowLaws.{any-make, any-at, count-le, count-hit, count-nth, count-cong, count-sub}
 use Rattle.steps.specs.Model.{Step, store, writeBack, fence, Steps, line, storesTo, writesBack, isFence, made}
 use Rattle.steps.specs.Model.{Rule, isSettled, settlesIn, settled, Permitted}
 
@@ -78,18 +78,18 @@ module _ (rule : Rule) (s : Steps) (n i l : ℕ) where
   pub settled-test : Settled rule s n i l → isSettled rule s n i l ≡ true
   unfolding isSettled
   settled-test r =
-      any-make (λ k. isFence (s k) && anyBelow (λ j. writesBack l (s j) && rule i j k) k) n (r .flush) (r .taken)
+      any-make (λ k. both (isFence (s k)) (anyBelow (λ j. both (writesBack l (s j)) (rule i j k)) k)) n (r .flush) (r .taken)
       (rw (r .fenced)
-      (any-make (λ j. writesBack l (s j) && rule i j (r .flush)) (r .flush) (r .back) (r .behind)
+      (any-make (λ j. both (writesBack l (s j)) (rule i j (r .flush))) (r .flush) (r .back) (r .behind)
       (rw (r .written, eq-eqb l l refl) (r .ordered))))
 
   pub test-settled : isSettled rule s n i l ≡ true → Settled rule s n i l
   unfolding isSettled
   test-settled e =
-      let (k, h, f) = any-at (λ k. isFence (s k) && anyBelow (λ j. writesBack l (s j) && rule i j k) k) n e in
-      let g = and-true (isFence (s k)) (anyBelow (λ j. writesBack l (s j) && rule i j k) k) f in
-      let (j, b, w) = any-at (λ j. writesBack l (s j) && rule i j k) k (g .1) in
-      let y = and-true (writesBack l (s j)) (rule i j k) w in
+      let (k, h, f) = any-at (λ k. both (isFence (s k)) (anyBelow (λ j. both (writesBack l (s j)) (rule i j k)) k)) n e in
+      let g = both-true (isFence (s k)) (anyBelow (λ j. both (writesBack l (s j)) (rule i j k)) k) f in
+      let (j, b, w) = any-at (λ j. both (writesBack l (s j)) (rule i j k)) k (g .1) in
+      let y = both-true (writesBack l (s j)) (rule i j k) w in
       record {
         back = j;
         flush = k;
@@ -117,7 +117,7 @@ settled-mono m h r = record {
 module _ (unit : ℕ → ℕ) (rule : Rule) (s : Steps) (n : ℕ) where
   -- a settled store is a store
   pub settled-stores : (u i : ℕ) (x : Step) → settlesIn unit rule s n u i x ≡ true → storesTo unit u x ≡ true
-  settled-stores u i (store p v) e = and-true (eqb (unit p) u) (isSettled rule s n i (line p)) e .0
+  settled-stores u i (store p v) e = both-true (eqb (unit p) u) (isSettled rule s n i (line p)) e .0
   settled-stores u i (writeBack k) e = e
   settled-stores u i fence e = e
 
@@ -136,7 +136,7 @@ module _ (unit : ℕ → ℕ) (rule : Rule) (s : Steps) (n : ℕ) where
 
       here : (i : ℕ) (x : Step) → s i ≡ x → settlesIn unit rule s n u i x ≡ true → i < n → made unit s i u < c
       here i (store p v) e t l =
-          let y = and-true (eqb (unit p) u) (isSettled rule s n i (line p)) t in
+          let y = both-true (eqb (unit p) u) (isSettled rule s n i (line p)) t in
           h i p v l e (eqb-true (unit p) u (y .0)) (test-settled rule s n i (line p) (y .1))
       here i (writeBack k) e t l = absurd (false≢true t)
       here i fence e t l = absurd (false≢true t)
@@ -185,7 +185,7 @@ module _ (unit : ℕ → ℕ) (rule : Rule) (s : Steps) (n : ℕ) where
 
         same : (h : ℕ) (x : Step) → s h ≡ x → h ≤ i → storesTo unit (unit p) x ≡ settlesIn unit rule s n (unit p) h x
         same h (store q w) d b =
-            by-test (λ t. eqb (unit q) (unit p) ≡ t → t ≡ (t && isSettled rule s n h (line q))) (eqb (unit q) (unit p))
+            by-test (λ t. eqb (unit q) (unit p) ≡ t → t ≡ both t (isSettled rule s n h (line q))) (eqb (unit q) (unit p))
             (λ t y.
             sym (settled-test rule s n h (line q) (settled-first h i p q v w b d e (eqb-true (unit q) (unit p) y) r)))
             (λ t y. refl)

@@ -10,7 +10,7 @@ use borrow.Author.Tests.{eq-eqb, ne-eqb, eqb-true, eqb-false, not-false}
 use lib.Dec.{eqb}
 use lib.ListN.{length, length-append}
 use Rattle.words.specs.Update.{upd, upd-same, upd-other}
-use Rattle.words.specs.Bools.{both, by-test, differ}
+use Rattle.words.specs.Bools.{both, both-none, by-test, differ}
 use Rattle.leaf.specs.Leaf.{Leaf, Taken, In}
 use Rattle.leaf.specs.Search.{count, countTo}
 use Rattle.leaf.specs.SearchLaws.{count-none}
@@ -89,10 +89,6 @@ empty-leaf L z s b t = differ (sym t ∙ count-none (L .occ) (L .size) z s b)
 
 positive : (m : ℕ) → (m ≡ 0 → ⊥) → 0 < m
 positive m ne = omega arith
-
-both-none : (b : Bool) → both b false ≡ false
-both-none true = refl
-both-none false = refl
 
 module _ (I : ℕ → Leaf) (N key : ℕ) (inside : (b s : ℕ) → Taken (I b) s → s < I b .size) where
   no-entries : (xs : List ℕ) → entries I xs ≡ 0 → (j u : ℕ) → Has I xs j u → ⊥
