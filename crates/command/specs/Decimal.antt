@@ -13,7 +13,7 @@ use lib.ListN.{length, length-append}
 use lib.Seq.{append-snoc}
 use Rattle.command.specs.Spelling.{digits, decimal}
 use Rattle.command.specs.Reading.{byte-zero, byte-nine, digitOf, closed, most, grown, grownBy}
-use Rattle.command.specs.Reading.{pushed, pushedAll, numberOf}
+use Rattle.command.specs.Reading.{pushed, pushedAll, spelledBy}
 use Rattle.command.specs.declared.number.Number.{Number}
 use Rattle.command.specs.declared.number.Number.the-variants.{Is, Not}
 
@@ -82,20 +82,20 @@ unfolding pushedAll
 pushed-snoc n [] b = refl
 pushed-snoc n (x ∷ l) b = pushed-snoc (pushed n x) l b
 
-number-snoc : (l : List ℕ) (b : ℕ) → 0 < length l → numberOf (l ++ b ∷ []) ≡ pushed (numberOf l) b
+number-snoc : (l : List ℕ) (b : ℕ) → 0 < length l → spelledBy (l ++ b ∷ []) ≡ pushed (spelledBy l) b
 number-snoc [] b h = absurd (not-suc-le-zero h)
 number-snoc (x ∷ l) b h = pushed-snoc (digitOf x) l b
 
-pub number-decimal : (n : ℕ) → n < 2 ^ 64 → numberOf (decimal n) ≡ Is n
+pub number-decimal : (n : ℕ) → n < 2 ^ 64 → spelledBy (decimal n) ≡ Is n
 unfolding pushedAll
 number-decimal =
-    by-digits (λ n. n < 2 ^ 64 → numberOf (decimal n) ≡ Is n) (λ n h lt. rw (decimal-small n h) (digit-is n h)) more
+    by-digits (λ n. n < 2 ^ 64 → spelledBy (decimal n) ≡ Is n) (λ n h lt. rw (decimal-small n h) (digit-is n h)) more
   where
-    more : (n : ℕ) → 10 ≤ n → (n / 10 < 2 ^ 64 → numberOf (decimal (n / 10)) ≡ Is (n / 10)) → n < 2 ^ 64
-        → numberOf (decimal n) ≡ Is n
+    more : (n : ℕ) → 10 ≤ n → (n / 10 < 2 ^ 64 → spelledBy (decimal (n / 10)) ≡ Is (n / 10)) → n < 2 ^ 64
+        → spelledBy (decimal n) ≡ Is n
     more n h ih lt =
         let e : n / 10 * 10 + n % 10 ≡ n = omega arith in
-        ap numberOf (decimal-more n h) ∙ number-snoc (decimal (n / 10)) (48 + n % 10) (decimal-some (n / 10))
+        ap spelledBy (decimal-more n h) ∙ number-snoc (decimal (n / 10)) (48 + n % 10) (decimal-some (n / 10))
         ∙ ap (λ (m : Number). pushed m (48 + n % 10)) (ih (omega arith))
         ∙ ap (grownBy (n / 10)) (digit-is (n % 10) (omega arith))
         ∙ grown-is (n / 10) (n % 10) (omega arith) (omega arith) ∙ ap Is e
@@ -156,7 +156,7 @@ pushed-all-read (b ∷ l) m n h e = go (pushed (Is m) b) refl e (λ k. pushed-al
         let q = ih k (p .1) e in
         (sym (append-snoc (decimal m) b l) ∙ ap (λ (x : List ℕ). x ++ l) (p .0) ∙ q .0, q .1)
 
-pub number-read : (l : List ℕ) (n : ℕ) → numberOf l ≡ Is n → (l ≡ decimal n) × (n < 2 ^ 64)
+pub number-read : (l : List ℕ) (n : ℕ) → spelledBy l ≡ Is n → (l ≡ decimal n) × (n < 2 ^ 64)
 number-read [] n e = absurd (let z : _≡_ {A = ℕ} 0 1 = cc in omega arith)
 number-read (b ∷ l) n e = go (digitOf b) refl e
   where

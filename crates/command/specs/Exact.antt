@@ -13,7 +13,7 @@ use lib.ListN.{length, getD, take, drop, length-append, length-drop, drop-of-len
 use lib.Seq.{take-at, drop-at, drop-drop, split-at, append-snoc}
 use Rattle.words.specs.Bools.{both, by-test}
 use Rattle.command.specs.Spelling.{decimal, put-word, set-word, del-word, get-word, list-word, spelling, InRange}
-use Rattle.command.specs.Reading.{until, begins, numberOf, fieldOf, fieldAt, pairOf, pairFrom, pairAt}
+use Rattle.command.specs.Reading.{until, begins, spelledBy, fieldOf, fieldAt, pairOf, pairFrom, pairAt}
 use Rattle.command.specs.Reading.{past-tab, tabbed, asPut, asSet, asDel, asGet, parseOf}
 use Rattle.command.specs.Decimal.{by-digits, decimal-small, decimal-more, decimal-some, number-decimal, number-read}
 use Rattle.command.specs.declared.Command.{Command}
@@ -53,13 +53,13 @@ field-spelled l at k m e h =
     ap (until 9) e ∙ until-decimal k (9 ∷ m) ∙ add-zero (length (decimal k)) in
     let g : take (until 9 (drop at l)) (drop at l) ≡ decimal k =
     rw (f, e) (take-at (decimal k) (9 ∷ m) (length (decimal k)) refl) in
-    ap (λ (x : List ℕ). fieldOf (numberOf x) (at + until 9 (drop at l))) g
+    ap (λ (x : List ℕ). fieldOf (spelledBy x) (at + until 9 (drop at l))) g
     ∙ ap (λ (x : Number). fieldOf x (at + until 9 (drop at l))) (number-decimal k h) ∙ ap (λ (x : ℕ). number k (at + x)) f
 
 pair-spelled : (l : List ℕ) (at k v : ℕ) → drop at l ≡ decimal k ++ 9 ∷ decimal v → k < 2 ^ 64 → v < 2 ^ 64
     → pairAt l at ≡ Both k v
 pair-spelled l at k v e hk hv =
-    ap (pairFrom l) (field-spelled l at k (decimal v) e hk) ∙ ap (λ (x : List ℕ). pairOf k (numberOf x)) behind
+    ap (pairFrom l) (field-spelled l at k (decimal v) e hk) ∙ ap (λ (x : List ℕ). pairOf k (spelledBy x)) behind
     ∙ ap (pairOf k) (number-decimal v hv)
   where
     behind : drop (past-tab (at + length (decimal k))) l ≡ decimal v
@@ -88,10 +88,10 @@ spelled-read line Malformed e h = absurd (let z : _≡_ {A = ℕ} 0 1 = cc in om
 -- ---- what is read is spelled so
 
 number-cases : (P : Number → Type 0) (l : List ℕ)
-    → ((n : ℕ) → l ≡ decimal n → n < 2 ^ 64 → P (Is n)) → P Not → P (numberOf l)
-number-cases P l is not = go (numberOf l) refl
+    → ((n : ℕ) → l ≡ decimal n → n < 2 ^ 64 → P (Is n)) → P Not → P (spelledBy l)
+number-cases P l is not = go (spelledBy l) refl
   where
-    go : (r : Number) → numberOf l ≡ r → P r
+    go : (r : Number) → spelledBy l ≡ r → P r
     go (Is n) e = let q = number-read l n e in is n (q .0) (q .1)
     go Not e = not
 

@@ -61,19 +61,19 @@ unfoldable pub pushedAll : Number → List ℕ → Number
 pushedAll n [] = n
 pushedAll n (b ∷ bs) = pushedAll (pushed n b) bs
 
-abbrev pub numberOf : List ℕ → Number
-numberOf [] = Not
-numberOf (b ∷ bs) = pushedAll (digitOf b) bs
+abbrev pub spelledBy : List ℕ → Number
+spelledBy [] = Not
+spelledBy (b ∷ bs) = pushedAll (digitOf b) bs
 
 abbrev pub fieldOf : Number → ℕ → Field
 fieldOf (Is n) end = number n end
 fieldOf Not end = no-field
 
 abbrev pub fieldAt : List ℕ → ℕ → Field
-fieldAt l at = fieldOf (numberOf (take (until 9 (drop at l)) (drop at l))) (at + until 9 (drop at l))
+fieldAt l at = fieldOf (spelledBy (take (until 9 (drop at l)) (drop at l))) (at + until 9 (drop at l))
 
 abbrev pub restAt : List ℕ → ℕ → Number
-restAt l at = numberOf (drop at l)
+restAt l at = spelledBy (drop at l)
 
 abbrev pub pairOf : ℕ → Number → Pair
 pairOf k (Is v) = Both k v

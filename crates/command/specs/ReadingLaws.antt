@@ -13,7 +13,7 @@ use lib.Dec.{eqb}
 use lib.ListN.{length, getD, take, drop, length-drop, drop-of-length-le}
 use lib.Seq.{drop-cons}
 use Rattle.words.specs.Bools.{both-none}
-use Rattle.command.specs.Reading.{until, begins, pushed, pushedAll, digitOf, numberOf, fieldOf, fieldAt}
+use Rattle.command.specs.Reading.{until, begins, pushed, pushedAll, digitOf, spelledBy, fieldOf, fieldAt}
 use Rattle.command.specs.declared.number.Number.{Number}
 use Rattle.command.specs.declared.number.Number.the-variants.{Is, Not}
 use Rattle.command.specs.declared.Field.the-variants.{Number as number, Nothing as no-field}
@@ -75,11 +75,11 @@ pub pushed-end : (n : Number) (l : List ℕ) (i : ℕ) → length l ≤ i → pu
 unfolding pushedAll
 pushed-end n l i h = rw (drop-of-length-le l h)
 
-pub number-first : (l : List ℕ) → 0 < length l → numberOf l ≡ pushedAll (digitOf (getD l 0 0)) (drop 1 l)
+pub number-first : (l : List ℕ) → 0 < length l → spelledBy l ≡ pushedAll (digitOf (getD l 0 0)) (drop 1 l)
 number-first [] h = absurd (not-suc-le-zero h)
 number-first (b ∷ bs) h = refl
 
-pub number-none : (l : List ℕ) → length l ≡ 0 → numberOf l ≡ Not
+pub number-none : (l : List ℕ) → length l ≡ 0 → spelledBy l ≡ Not
 number-none [] h = refl
 number-none (b ∷ bs) h = absurd (omega arith)
 
@@ -90,19 +90,19 @@ until-within b l at h = omega (arith, until-le b (drop at l), length-drop at l)
 
 pub field-none : (l : List ℕ) (at : ℕ) → length l ≤ at → fieldAt l at ≡ no-field
 unfolding until
-field-none l at h = ap (λ (r : List ℕ). fieldOf (numberOf (take (until 9 r) r)) (at + until 9 r)) (drop-of-length-le l h)
+field-none l at h = ap (λ (r : List ℕ). fieldOf (spelledBy (take (until 9 r) r)) (at + until 9 r)) (drop-of-length-le l h)
 
 pub field-to : (l : List ℕ) (at end : ℕ) → end ≡ at + until 9 (drop at l)
-    → fieldOf (numberOf (take (end - at) (drop at l))) end ≡ fieldAt l at
+    → fieldOf (spelledBy (take (end - at) (drop at l))) end ≡ fieldAt l at
 field-to l at end e =
     let f : end - at ≡ until 9 (drop at l) = omega arith in
-    ap₂ (λ (n m : ℕ). fieldOf (numberOf (take n (drop at l))) m) f e
+    ap₂ (λ (n m : ℕ). fieldOf (spelledBy (take n (drop at l))) m) f e
 
 pub field-within : (l : List ℕ) (at k end : ℕ) → fieldAt l at ≡ number k end → end ≤ length l
 field-within l at k end e =
     elim (decLt (length l) at) [
       | yes h ↦ absurd (clash (sym (field-none l at (omega arith)) ∙ e))
-      | no h ↦ ends (numberOf (take (until 9 (drop at l)) (drop at l))) e (until-within 9 l at (omega arith))
+      | no h ↦ ends (spelledBy (take (until 9 (drop at l)) (drop at l))) e (until-within 9 l at (omega arith))
     ]
   where
     clash : no-field ≡ number k end → ⊥

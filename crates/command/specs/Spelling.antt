@@ -20,9 +20,9 @@ abbrev pub before : Bool → ℕ → List (List ℕ) → List (List ℕ)
 before true b ls = [] ∷ ls
 before false b ls = onto b ls
 
-unfoldable pub linesOf : List ℕ → List (List ℕ)
-linesOf [] = []
-linesOf (b ∷ bs) = before (eqb b 10) b (linesOf bs)
+unfoldable pub linesIn : List ℕ → List (List ℕ)
+linesIn [] = []
+linesIn (b ∷ bs) = before (eqb b 10) b (linesIn bs)
 
 -- "fields parted by tabs"
 abbrev pub parted : List (List ℕ) → List ℕ

@@ -7,7 +7,7 @@ pub use answer::answer_line;
 pub use answer::pair_line;
 pub use answer::pair_lines;
 use number::Number;
-use number::number_of;
+use number::spelled_by;
 pub use reader::Reader;
 use reader::read_field;
 pub use reader::read_line;
@@ -46,7 +46,7 @@ enum Pair {
 }
 
 // The place of the next byte `sought` from a place on, or the end.
-fn find(bytes: &[u8], at: usize, sought: u8) -> usize
+fn next_place(bytes: &[u8], at: usize, sought: u8) -> usize
     ensures { λ r. ⌜ r ≡ at + until sought (drop at (now (bytes .entry))) ⌝ }
 {
     let mut i = at;
@@ -62,13 +62,13 @@ fn find(bytes: &[u8], at: usize, sought: u8) -> usize
 fn line_end(input: &[u8], at: usize) -> usize
     ensures { λ r. ⌜ r ≡ at + until 10 (drop at (now (input .entry))) ⌝ }
 {
-    find(input, at, b'\n')
+    next_place(input, at, b'\n')
 }
 
 fn field_end(line: &[u8], at: usize) -> usize
     ensures { λ r. ⌜ r ≡ at + until 9 (drop at (now (line .entry))) ⌝ }
 {
-    find(line, at, b'\t')
+    next_place(line, at, b'\t')
 }
 
 // The field at a place of a line: it ends at the next tab or with the line.
@@ -79,7 +79,7 @@ fn field_at(line: &[u8], at: usize) -> Field
         return Field::Nothing;
     }
     let end = field_end(line, at);
-    match number_of(&line[at..end]) {
+    match spelled_by(&line[at..end]) {
         Number::Is(n) => Field::Number(n, end),
         Number::Not => Field::Nothing,
     }
@@ -92,7 +92,7 @@ fn rest_at(line: &[u8], at: usize) -> Number
     if line.len() < at {
         return Number::Not;
     }
-    number_of(&line[at..])
+    spelled_by(&line[at..])
 }
 
 fn pair_at(line: &[u8], at: usize) -> Pair

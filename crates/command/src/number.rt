@@ -1,7 +1,7 @@
 // A field read as a number: decimal, with no sign and no leading zero but 0 itself, at most 2^64 - 1.
 use words::wide;
 ghost use mathlib.Core.Path.{_≡_};
-ghost use Rattle.command.specs.Reading.{digitOf, grown, pushed, numberOf};
+ghost use Rattle.command.specs.Reading.{digitOf, grown, pushed, spelledBy};
 
 // The number that bytes spell, or that they spell none.
 pub enum Number {
@@ -52,8 +52,8 @@ fn push(head: Number, byte: u8) -> Number
 }
 
 // The number that a whole field spells.
-pub fn number_of(field: &[u8]) -> Number
-    ensures { λ r. ⌜ r ≡ numberOf (now (field .entry)) ⌝ }
+pub fn spelled_by(field: &[u8]) -> Number
+    ensures { λ r. ⌜ r ≡ spelledBy (now (field .entry)) ⌝ }
 {
     if field.len() == 0 {
         return Number::Not;

@@ -6,7 +6,7 @@ use mathlib.Core.List.{List, [], _∷_}
 use Prim.Native.Nat.{ℕ}
 use lib.ListN.{length}
 use Rattle.machine.specs.declared.Ran.{Ran}
-use Rattle.machine.specs.Calls.{numberOf, runOf, cutOf, runTable, cutTable}
+use Rattle.machine.specs.Calls.{ranAs, runOf, cutOf, runTable, cutTable}
 use Rattle.index.specs.declared.find.Found.{Found}
 use Rattle.index.specs.declared.listing.Listed.{Listed}
 use Rattle.index.specs.declared.recovery.Recovered.{Recovered}
@@ -46,9 +46,9 @@ Allowed (recovery image smallest numbers) r = recoveryIs (recoveredAs (r .0)) (r
 Allowed (put image list key value) r = madeAs (r .0) (r .1) ≡ putOf image list key value
 Allowed (set image list key value) r = madeAs (r .0) (r .1) ≡ setOf image list key value
 Allowed (del image list key) r = madeAs (r .0) (r .1) ≡ delOf image list key
-Allowed (run image list n) r = (numberOf (r .0) ≡ runOf image list n .answer) × (r .1 ≡ runOf image list n .image)
+Allowed (run image list n) r = (ranAs (r .0) ≡ runOf image list n .answer) × (r .1 ≡ runOf image list n .image)
 Allowed (cut image list n arrivals) r =
-    (numberOf (r .0) ≡ cutOf image list n arrivals .answer) × (r .1 ≡ cutOf image list n arrivals .image)
+    (ranAs (r .0) ≡ cutOf image list n arrivals .answer) × (r .1 ≡ cutOf image list n arrivals .image)
 
 -- a result as document 01 tells it: the number, the counts and values, and the buffers
 pub record Told : Type 0 where
@@ -71,8 +71,8 @@ told (recovery image smallest numbers) r =
 told (put image list key value) r = made (r .0) (r .1)
 told (set image list key value) r = made (r .0) (r .1)
 told (del image list key) r = made (r .0) (r .1)
-told (run image list n) r = tells (numberOf (r .0)) [] (r .1 ∷ [])
-told (cut image list n arrivals) r = tells (numberOf (r .0)) [] (r .1 ∷ [])
+told (run image list n) r = tells (ranAs (r .0)) [] (r .1 ∷ [])
+told (cut image list n arrivals) r = tells (ranAs (r .0)) [] (r .1 ∷ [])
 
 -- the buffers lent to be written
 abbrev pub lent : Asked → List (List ℕ)

@@ -15,7 +15,7 @@ ghost use mathlib.Core.Path.{_≡_};
 ghost use lib.ListN.{length};
 
 // A slot as a number: 14 where there is none.
-fn as_number(slot: Slot) -> u64 {
+fn slot_number(slot: Slot) -> u64 {
     match slot {
         Slot::At(s) => s as u64,
         Slot::Missing => 14,
@@ -51,7 +51,7 @@ fn tell_leaf(leaf: &[u8])
     let t = tally_of(leaf, head, &mut stamps, 1);
     tell(entries(head));
     tell(t.least);
-    tell(as_number(lowest_vacant(head)));
+    tell(slot_number(lowest_vacant(head)));
     tell(t.wrong);
     if has_twins(leaf, head, t.hits) {
         tell(1);
@@ -65,7 +65,7 @@ fn tell_leaf(leaf: &[u8])
 fn tell_key(leaf: &[u8], key: u64)
     requires { ⌜ 256 ≤ length (now leaf) ⌝ }
 {
-    tell(as_number(find_slot(leaf, key)));
+    tell(slot_number(find_slot(leaf, key)));
     end_line();
 }
 

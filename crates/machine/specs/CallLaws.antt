@@ -22,12 +22,12 @@ use Rattle.steps.specs.Lists.{Each}
 use Rattle.steps.specs.Refusals.{row-passed, badImage}
 use Rattle.machine.specs.declared.Ran.{Ran}
 use Rattle.machine.specs.declared.Ran.the-variants.{Done, BadImage, BadList, BadArrivals}
-use Rattle.machine.specs.Calls.{numberOf, arrived, badList, outside, badArrivals, runOf, cutOf}
+use Rattle.machine.specs.Calls.{ranAs, arrived, badList, outside, badArrivals, runOf, cutOf}
 use Rattle.machine.specs.Fits.{Passed, passed, passes, line-inside}
 
 -- ---- the number tells the answer, so the contracts allow one result
 
-pub answer-of : (a b : Ran) → numberOf a ≡ numberOf b → a ≡ b
+pub answer-of : (a b : Ran) → ranAs a ≡ ranAs b → a ≡ b
 answer-of Done Done e = refl
 answer-of Done BadImage e = absurd (omega arith)
 answer-of Done BadList e = absurd (omega arith)

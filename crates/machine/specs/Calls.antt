@@ -13,11 +13,11 @@ use Rattle.machine.specs.declared.Ran.{Ran}
 use Rattle.machine.specs.declared.Ran.the-variants.{Done, BadImage, BadList, BadArrivals}
 
 -- "When an answer is an enum, a definition gives this paper's number (..) for each of its cases."
-abbrev pub numberOf : Ran → ℕ
-numberOf Done = 0
-numberOf BadImage = 1
-numberOf BadList = 7
-numberOf BadArrivals = 10
+abbrev pub ranAs : Ran → ℕ
+ranAs Done = 0
+ranAs BadImage = 1
+ranAs BadList = 7
+ranAs BadArrivals = 10
 
 -- "given for each line how many of its stores in the first n steps arrived"
 abbrev pub arrived : List ℕ → ℕ → ℕ

@@ -10,7 +10,7 @@ use crate::refusals::bad_arrivals;
 pub use crate::refusals::bad_image;
 use crate::refusals::bad_list;
 ghost use mathlib.Core.Path.{_≡_};
-ghost use Rattle.machine.specs.Calls.{numberOf, runOf, cutOf};
+ghost use Rattle.machine.specs.Calls.{ranAs, runOf, cutOf};
 
 // What run and cut answer.
 pub enum Ran {
@@ -21,8 +21,8 @@ pub enum Ran {
 }
 
 // Document 01's number of an answer.
-pub fn number_of(ran: Ran) -> u64
-    ensures { λ r. ⌜ r ≡ numberOf ran ⌝ }
+pub fn ran_as(ran: Ran) -> u64
+    ensures { λ r. ⌜ r ≡ ranAs ran ⌝ }
 {
     match ran {
         Ran::Done => 0,
@@ -34,7 +34,7 @@ pub fn number_of(ran: Ran) -> u64
 
 // "Run takes the first n steps of a list over an image as the processor sees it."
 pub fn run(image: &mut [u8], list: &[u64], n: usize) -> Ran
-    ensures { λ r. ⌜ (numberOf r ≡ runOf (now (image .entry)) (now (list .entry)) n .answer)
+    ensures { λ r. ⌜ (ranAs r ≡ runOf (now (image .entry)) (now (list .entry)) n .answer)
         × (now (image .exit) ≡ runOf (now (image .entry)) (now (list .entry)) n .image) ⌝ }
 {
     let size = image.len() as u64;
@@ -50,7 +50,7 @@ pub fn run(image: &mut [u8], list: &[u64], n: usize) -> Ran
 
 // "Cut does the same as the memory holds it, given for each line how many of its stores in the first n steps arrived."
 pub fn cut(image: &mut [u8], list: &[u64], n: usize, arrivals: &[u64]) -> Ran
-    ensures { λ r. ⌜ (numberOf r ≡ cutOf (now (image .entry)) (now (list .entry)) n (now (arrivals .entry)) .answer)
+    ensures { λ r. ⌜ (ranAs r ≡ cutOf (now (image .entry)) (now (list .entry)) n (now (arrivals .entry)) .answer)
         × (now (image .exit) ≡ cutOf (now (image .entry)) (now (list .entry)) n (now (arrivals .entry)) .image) ⌝ }
 {
     let size = image.len() as u64;

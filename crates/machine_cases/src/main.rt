@@ -16,7 +16,7 @@ fn space(value: u64) {
 
 fn answer(case: u64, ran: Ran) {
     io::print_decimal(STDOUT_FILENO, case);
-    space(machine::number_of(ran));
+    space(machine::ran_as(ran));
 }
 
 fn show(case: u64, ran: Ran, image: &[u8; 256]) {

@@ -41,8 +41,8 @@ taken image made =
     ((made .answer ∷ made .steps ∷ made .lines ∷ made .words ∷ []) ∷ [])
 
 -- "get prints answer and value"
-abbrev pub told : Told → List (List ℕ)
-told found = (found .answer ∷ found .value ∷ []) ∷ []
+abbrev pub got : Told → List (List ℕ)
+got found = (found .answer ∷ found .value ∷ []) ∷ []
 
 -- "list prints key and value of each entry"
 abbrev pub row : Entry → List ℕ
@@ -60,6 +60,6 @@ unfoldable pub performed : Command → List ℕ → Performed
 performed (Put k v) image = taken image (putOf image room k v)
 performed (Set k v) image = taken image (setOf image room k v)
 performed (Del k) image = taken image (delOf image room k)
-performed (Get k) image = performing image (told (findOf image k))
+performed (Get k) image = performing image (got (findOf image k))
 performed Listing image = performing image (rows image)
 performed Malformed image = performing image (refused 9)

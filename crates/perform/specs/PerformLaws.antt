@@ -10,7 +10,7 @@ use Rattle.machine.specs.Calls.{runOf}
 use Rattle.writing.specs.Writing.{Outcome}
 use Rattle.index.specs.Reading.{Told}
 use Rattle.command.specs.declared.Command.{Command}
-use Rattle.perform.specs.Perform.{Done, taken, told, performed}
+use Rattle.perform.specs.Perform.{Done, taken, got, performed}
 
 -- a line written is the text of that line
 pub line-text : (old : List ℕ) (ns : List ℕ) (new : List ℕ) (n : ℕ) → Written old (lineOf ns) new n → Written old (textOf (ns ∷ [])) new n
@@ -27,9 +27,9 @@ pub taken-as : (image : List ℕ) (o made : Outcome) (after old new : List ℕ) 
     → Done (taken image o) after old new n
 taken-as image o made after old new n e d = subst (λ (x : Outcome). Done (taken image x) after old new n) e d
 
-pub told-line : (t found : Told) (old new : List ℕ) (n : ℕ) → found ≡ t
-    → Written old (lineOf (found .answer ∷ found .value ∷ [])) new n → Written old (textOf (told t)) new n
-told-line t found old new n e w = subst (λ (x : Told). Written old (textOf (told x)) new n) e (line-text old _ new n w)
+pub got-line : (t found : Told) (old new : List ℕ) (n : ℕ) → found ≡ t
+    → Written old (lineOf (found .answer ∷ found .value ∷ [])) new n → Written old (textOf (got t)) new n
+got-line t found old new n e w = subst (λ (x : Told). Written old (textOf (got x)) new n) e (line-text old _ new n w)
 
 pub rows-text : (old new : List ℕ) (n : ℕ) (ls ms : List (List ℕ)) → ls ≡ ms → Written old (textOf ls) new n → Written old (textOf ms) new n
 rows-text old new n ls ms e w = subst (λ (x : List (List ℕ)). Written old (textOf x) new n) e w

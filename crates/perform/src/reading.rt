@@ -7,10 +7,10 @@ use command::pair_lines;
 ghost use Rattle.command.specs.Spelling.{textOf, Written};
 ghost use Rattle.command.specs.Stores.{Counts};
 ghost use Rattle.index.specs.Reading.{findOf};
-ghost use Rattle.perform.specs.Perform.{told, rows};
+ghost use Rattle.perform.specs.Perform.{got, rows};
 
 pub fn do_get(image: &[u8], key: u64, out: &mut [u8; ROOM]) -> usize
-    ensures { λ r. ⌜ Written (now (out .entry)) (textOf (told (findOf (now (image .entry)) key))) (now (out .exit)) r ⌝ }
+    ensures { λ r. ⌜ Written (now (out .entry)) (textOf (got (findOf (now (image .entry)) key))) (now (out .exit)) r ⌝ }
     ensures { λ r. ⌜ Counts r (now (out .exit)) ⌝ }
 {
     let found = hut_find(image, key);

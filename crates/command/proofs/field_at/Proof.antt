@@ -11,7 +11,7 @@ use Rattle.command.proofs.field_at.Tie as tie
 returns : tie.Need-returns
 returns c = let a = c .before .before .args in sym (field-none (a .line .now) (a .at) (omega arith))
 
-part-end : tie.Need-part-number-of-end
+part-end : tie.Need-part-spelled-by-end
 part-end c =
     let a = c .before .before .before .args in
     omega (arith, until-within 9 (a .line .now) (a .at) (c .before .if1 .left))
@@ -21,7 +21,7 @@ returns-2 c =
     let b = c .before .before .before in
     let e = b .before .before in
     let a = e .before .before .before .args in
-    ap (λ (n : Number). fieldOf n (e .field-end .result)) (sym (c .before .n .given .1) ∙ b .number-of .ensures)
+    ap (λ (n : Number). fieldOf n (e .field-end .result)) (sym (c .before .n .given .1) ∙ b .spelled-by .ensures)
     ∙ field-to (a .line .now) (a .at) (e .field-end .result) (e .field-end .ensures)
 
 returns-3 : tie.Need-returns-3
@@ -29,7 +29,7 @@ returns-3 c =
     let b = c .before .before in
     let e = b .before .before in
     let a = e .before .before .before .args in
-    ap (λ (n : Number). fieldOf n (e .field-end .result)) (sym (c .enum-told .given .1) ∙ b .number-of .ensures)
+    ap (λ (n : Number). fieldOf n (e .field-end .result)) (sym (c .enum-told .given .1) ∙ b .spelled-by .ensures)
     ∙ field-to (a .line .now) (a .at) (e .field-end .result) (e .field-end .ensures)
 
 pub field-at-spec : {M : Type 1} → statement M

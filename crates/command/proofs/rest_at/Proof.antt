@@ -5,21 +5,21 @@ use native.Mathlib.Omega.{arith}
 use borrow.Author.Needs.{needs}
 use lib.ListN.{length, drop, length-drop, drop-of-length-le}
 use lib.Seq.{take-all}
-use Rattle.command.specs.Reading.{numberOf}
+use Rattle.command.specs.Reading.{spelledBy}
 use Rattle.command.proofs.rest_at.Statement.{statement}
 use Rattle.command.proofs.rest_at.Tie as tie
 
 returns : tie.Need-returns
 returns c =
     let a = c .before .before .args in
-    ap numberOf (sym (drop-of-length-le (a .line .now) {i = a .at} (omega arith)))
+    ap spelledBy (sym (drop-of-length-le (a .line .now) {i = a .at} (omega arith)))
 
 returns-2 : tie.Need-returns-2
 returns-2 c =
     let a = c .before .before .before .before .args in
     let l = a .line .now in
     let all = take-all (length l - a .at) (drop (a .at) l) (omega (arith, length-drop (a .at) l)) in
-    c .number-of .ensures ∙ ap numberOf all
+    c .spelled-by .ensures ∙ ap spelledBy all
 
 pub rest-at-spec : {M : Type 1} → statement M
 rest-at-spec =

@@ -1,11 +1,11 @@
 use borrow.Author.Needs.{needs}
-use Rattle.perform.specs.PerformLaws.{told-line}
+use Rattle.perform.specs.PerformLaws.{got-line}
 use Rattle.perform.proofs.reading.do_get.Statement.{statement}
 use Rattle.perform.proofs.reading.do_get.Tie as tie
 
 returns : tie.Need-returns
 returns c = (
-  told-line _ _ _ _ _ (c .before .before .hut-find .ensures) (c .pair-line .ensures .0),
+  got-line _ _ _ _ _ (c .before .before .hut-find .ensures) (c .pair-line .ensures .0),
   c .pair-line .ensures .1,
 )
 

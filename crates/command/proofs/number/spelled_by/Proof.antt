@@ -1,17 +1,17 @@
--- `command::number::number_of` meets its contract. The invariant: `n` with the bytes from `i` on is the field's number.
+-- `command::number::spelled_by` meets its contract. The invariant: `n` with the bytes from `i` on is the field's number.
 use mathlib.Core.Path.{_≡_, sym, ap, _∙_}
 use Prim.Native.Nat.{_+_, _-_}
 use native.Mathlib.Omega.{arith}
 use borrow.Author.Needs.{needs}
 use lib.ListN.{length, drop}
-use Rattle.command.specs.Reading.{pushedAll, numberOf}
+use Rattle.command.specs.Reading.{pushedAll, spelledBy}
 use Rattle.command.specs.ReadingLaws.{pushed-next, pushed-end, number-first, number-none}
 use Rattle.command.specs.declared.number.Number.{Number}
-use Rattle.command.proofs.number.number_of.Statement.{statement}
-use Rattle.command.proofs.number.number_of.Tie as tie
+use Rattle.command.proofs.number.spelled_by.Statement.{statement}
+use Rattle.command.proofs.number.spelled_by.Tie as tie
 
 abbrev Inv-loop : tie.InvT-loop
-Inv-loop field n₀ i₀ n i = pushedAll n (drop i field) ≡ numberOf field
+Inv-loop field n₀ i₀ n i = pushedAll n (drop i field) ≡ spelledBy field
 
 abbrev μ-loop : tie.MeasureT-loop
 μ-loop field n₀ i₀ n i = length field - i
@@ -34,8 +34,8 @@ returns-2 c =
     let field = b .before .before .before .before .before .args .field .now in
     sym (pushed-end (b .loop .n) field (b .loop .i) (c .loop-test .left)) ∙ b .loop .inv
 
-pub number-of-spec : {M : Type 1} → statement M
-number-of-spec =
+pub spelled-by-spec : {M : Type 1} → statement M
+spelled-by-spec =
     tie.close
     (tie.spec Inv-loop μ-loop (λ c. sym (number-none (c .before .before .args .field .now) (c .if1 .taken)))
     (λ c. omega arith) (λ c κs. search needs) loop-holds (λ c. omega arith) (λ c κs. search needs) (λ c. omega arith)
