@@ -3,10 +3,11 @@
 use command::Next;
 use libc::STDIN_FILENO;
 use libc::STDOUT_FILENO;
+use perform::ROOM;
 
 fn serve(input: &[u8]) {
     let mut image = [0u8; 1024];
-    let mut out = [0u8; 2352];
+    let mut out = [0u8; ROOM];
     let mut at = 0;
     loop {
         match command::read_line(input, at) {
@@ -21,7 +22,7 @@ fn serve(input: &[u8]) {
 }
 
 fn refuse() {
-    let mut out = [0u8; 2352];
+    let mut out = [0u8; ROOM];
     let n = perform::refuse(&mut out);
     io::write_all(STDOUT_FILENO, &out[..n]);
 }

@@ -21,6 +21,8 @@ fn digit(byte: u8) -> Number
     Number::Is(wide(byte) - 48)
 }
 
+const MOST: u64 = 18446744073709551615;
+
 // `n` with a digit behind it. A 0 takes none: no leading zero. The last number whose tenfold fits is 1844674407370955161.
 fn grow(n: u64, digit: u64) -> Number
     ensures { λ r. ⌜ r ≡ grown n digit ⌝ }
@@ -32,7 +34,7 @@ fn grow(n: u64, digit: u64) -> Number
         return Number::Not;
     }
     let tens = n * 10;
-    if 18446744073709551615 - tens < digit {
+    if MOST - tens < digit {
         return Number::Not;
     }
     Number::Is(tens + digit)

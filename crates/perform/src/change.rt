@@ -6,6 +6,7 @@ use board::making::hut_put;
 use board::making::hut_set;
 use board::taking::hut_run;
 use command::answer_line;
+use steps::LIST_ROOM;
 ghost use mathlib.Core.Path.{_≡_};
 ghost use mathlib.Core.Bool.{cond};
 ghost use lib.Dec.{eqb};
@@ -45,7 +46,7 @@ pub fn do_put(image: &mut [u8], key: u64, value: u64, out: &mut [u8; ROOM]) -> u
         (now (out .entry)) (now (out .exit)) r ⌝ }
     ensures { λ r. ⌜ Counts r (now (out .exit)) ⌝ }
 {
-    let mut list = [0u64; 112];
+    let mut list = [0u64; LIST_ROOM];
     let made = hut_put(image, &mut list, key, value);
     take(image, &list, made, out)
 }
@@ -55,7 +56,7 @@ pub fn do_set(image: &mut [u8], key: u64, value: u64, out: &mut [u8; ROOM]) -> u
         (now (out .entry)) (now (out .exit)) r ⌝ }
     ensures { λ r. ⌜ Counts r (now (out .exit)) ⌝ }
 {
-    let mut list = [0u64; 112];
+    let mut list = [0u64; LIST_ROOM];
     let made = hut_set(image, &mut list, key, value);
     take(image, &list, made, out)
 }
@@ -65,7 +66,7 @@ pub fn do_del(image: &mut [u8], key: u64, out: &mut [u8; ROOM]) -> usize
         (now (out .entry)) (now (out .exit)) r ⌝ }
     ensures { λ r. ⌜ Counts r (now (out .exit)) ⌝ }
 {
-    let mut list = [0u64; 112];
+    let mut list = [0u64; LIST_ROOM];
     let made = hut_del(image, &mut list, key);
     take(image, &list, made, out)
 }

@@ -15,7 +15,7 @@ ghost use Rattle.command.specs.Stores.{Counts};
 ghost use Rattle.perform.specs.Perform.{tooLong, refused, performed, Done};
 
 // The lines of 56 entries, which is all that 4 blocks hold, each of two numbers of at most 20 digits.
-const ROOM: usize = 2352;
+pub const ROOM: usize = 2352;
 
 // "Reads standard input, at most 65,536 bytes."
 pub fn too_long(input: &[u8]) -> bool

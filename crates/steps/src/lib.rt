@@ -8,6 +8,9 @@ pub enum Step {
     Fence,
 }
 
+// "list room under 112 words" is refused by put, set and del: room for 56 steps of two words. Contracts say the number.
+pub const LIST_ROOM: usize = 112;
+
 // "Line writes and word writes are kept apart: a line write is a write-back step, a word write a store step."
 pub struct LineWrites(pub u64);
 

@@ -8,6 +8,7 @@ use emit::short::write_unlink;
 use leaf::search::Slot;
 use leaf::search::entries;
 use machine::bad_image;
+use steps::LIST_ROOM;
 use steps::LineWrites;
 use steps::WordWrites;
 use survey::along::next_block;
@@ -59,7 +60,7 @@ pub fn set(image: &[u8], list: &mut [u64], key: u64, value: u64) -> Made
     if bad_image(image.len() as u64) {
         return Made::BadImage;
     }
-    if list.len() < 112 {
+    if list.len() < LIST_ROOM {
         return Made::ShortList;
     }
     let w = survey(image, key);
@@ -106,7 +107,7 @@ pub fn del(image: &[u8], list: &mut [u64], key: u64) -> Made
     if bad_image(image.len() as u64) {
         return Made::BadImage;
     }
-    if list.len() < 112 {
+    if list.len() < LIST_ROOM {
         return Made::ShortList;
     }
     let w = survey(image, key);

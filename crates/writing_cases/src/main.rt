@@ -3,6 +3,7 @@
 use index::find::Found;
 use index::recovery::Recovered;
 use libc::STDOUT_FILENO;
+use steps::LIST_ROOM;
 use writing::Made;
 
 fn tell(n: u64) {
@@ -39,14 +40,14 @@ fn tell_made(made: Made) -> u64 {
 }
 
 fn put(image: &mut [u8], key: u64) {
-    let mut list = [0u64; 112];
+    let mut list = [0u64; LIST_ROOM];
     let n = tell_made(writing::put::put(image, &mut list, key, 7));
     machine::run(image, &list, n as usize);
     end_line();
 }
 
 fn set(image: &mut [u8], key: u64, value: u64) {
-    let mut list = [0u64; 112];
+    let mut list = [0u64; LIST_ROOM];
     let n = tell_made(writing::change::set(image, &mut list, key, value));
     machine::run(image, &list, n as usize);
     end_line();
@@ -54,7 +55,7 @@ fn set(image: &mut [u8], key: u64, value: u64) {
 
 // The first step is told too: the place of its store and the word stored.
 fn del(image: &mut [u8], key: u64) {
-    let mut list = [0u64; 112];
+    let mut list = [0u64; LIST_ROOM];
     let n = tell_made(writing::change::del(image, &mut list, key));
     machine::run(image, &list, n as usize);
     tell(list[0]);
