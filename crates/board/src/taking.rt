@@ -3,7 +3,7 @@ use machine::cut;
 use machine::ran_as;
 use machine::run;
 ghost use mathlib.Core.Path.{_≡_};
-ghost use Rattle.machine.specs.Calls.{runOf, cutOf};
+ghost use Rattle.machine.specs.Taking.{runOf, cutOf};
 
 #[no_mangle]
 pub extern "C" fn hut_run(image: &mut [u8], list: &[u64], n: u64) -> u64

@@ -38,7 +38,7 @@ use Rattle.lists.specs.Lists.{setList, delList, unlinkList, clearList, isAlone}
 use Rattle.lists.specs.FullLists.{putList}
 use Rattle.lists.specs.Served.{linesOf}
 use Rattle.lists.specs.SetDel.{Behind}
-use Rattle.lists.specs.Calls.{set-call, del-call, put-call}
+use Rattle.lists.specs.ServedCalls.{set-call, del-call, put-call}
 use Rattle.lists.specs.Sizes.{set-size, del-size, put-size}
 use Rattle.lists.specs.Bytes.{ServedBytes}
 use Rattle.writing.specs.Writing.{targetOf, beforeOf, placeOf, freeOf, isMissing, isFull, blockOr0}

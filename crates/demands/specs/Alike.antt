@@ -11,7 +11,7 @@ use Rattle.leaf.specs.Leaf.{Leaf}
 use Rattle.leaf.specs.Search.{countTo, lowest}
 use Rattle.leaf.specs.Tally.{atMost}
 use Rattle.steps.specs.Refusals.{answer, badImage}
-use Rattle.machine.specs.Calls.{runTable, cutTable}
+use Rattle.machine.specs.Taking.{runTable, cutTable}
 use Rattle.image.specs.Map.{lookup}
 use Rattle.image.specs.Same.{Same, Slots}
 use Rattle.image.specs.CountLaws.{count-ext, count-slots}

@@ -6,7 +6,7 @@ use mathlib.Core.List.{List, [], _∷_}
 use Prim.Native.Nat.{ℕ}
 use lib.ListN.{length}
 use Rattle.machine.specs.declared.Ran.{Ran}
-use Rattle.machine.specs.Calls.{ranAs, runOf, cutOf, runTable, cutTable}
+use Rattle.machine.specs.Taking.{ranAs, runOf, cutOf, runTable, cutTable}
 use Rattle.index.specs.declared.find.Found.{Found}
 use Rattle.index.specs.declared.listing.Listed.{Listed}
 use Rattle.index.specs.declared.recovery.Recovered.{Recovered}

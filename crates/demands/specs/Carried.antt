@@ -15,9 +15,9 @@ use Rattle.steps.specs.Encoding.{stepAt, stepsOf, written}
 use Rattle.steps.specs.EncodingLaws.{written-step}
 use Rattle.steps.specs.Concatenation.{Agree, run-cong, cut-cong, permitted-cong, all-settled-cong}
 use Rattle.steps.specs.Refusals.{badImage}
-use Rattle.machine.specs.Calls.{storeWord, arrived, runOf, cutOf}
+use Rattle.machine.specs.Taking.{storeWord, arrived, runOf, cutOf}
 use Rattle.machine.specs.Fits.{Passed}
-use Rattle.machine.specs.CallLaws.{Arrived, run-accepted, cut-passed, cut-accepted, written-passed}
+use Rattle.machine.specs.TakingLaws.{Arrived, run-accepted, cut-passed, cut-accepted, written-passed}
 use Rattle.image.specs.Map.{Entry}
 use Rattle.image.specs.Entries.{listOf}
 use Rattle.image.specs.Potential.{phi}

@@ -8,7 +8,7 @@ use lib.Dec.{eqb}
 use lib.ListN.{getD, replicate}
 use Rattle.words.specs.Bools.{both, both-true, differ}
 use Rattle.words.specs.Words.{reads}
-use Rattle.machine.specs.Calls.{storeWord, runOf, cutOf}
+use Rattle.machine.specs.Taking.{storeWord, runOf, cutOf}
 use Rattle.image.specs.Image.{leaves}
 use Rattle.index.specs.Reading.{findOf, recoveryOf}
 use Rattle.writing.specs.Writing.{Outcome}

@@ -8,7 +8,7 @@ use Rattle.leaf.specs.Tally.{atMost, mostTo, shares, someTo, twinAt, twins, wro
 use Rattle.steps.specs.Model.{isSettled}
 use Rattle.steps.specs.Encoding.{decode, written}
 use Rattle.steps.specs.Refusals.{badImage}
-use Rattle.machine.specs.Calls.{badArrivals, badList}
+use Rattle.machine.specs.Taking.{badArrivals, badList}
 use Rattle.survey.specs.Walk.{faultOf, judged, surveyed, walk}
 use Rattle.image.specs.Map.{lookup}
 use Rattle.image.specs.Order.{slotsFrom, slotsOf}

@@ -10,7 +10,7 @@ use Rattle.leaf.specs.Leaf.{Taken}
 use Rattle.steps.specs.declared.Step.{Step}
 use Rattle.steps.specs.Model.{line, made, rule01, settled}
 use Rattle.steps.specs.Encoding.{first, second, inImage, stepAt}
-use Rattle.machine.specs.Calls.{arrived}
+use Rattle.machine.specs.Taking.{arrived}
 use Rattle.image.specs.Chain.{Has}
 use Rattle.image.specs.Image.{blocks, leaves, SoundImage}
 use Rattle.index.specs.Reading.{chainOf}

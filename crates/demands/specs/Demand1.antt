@@ -15,7 +15,7 @@ use Rattle.words.specs.Bools.{both, both-true, by-test, differ, not-so}
 use Rattle.steps.specs.Refusals.{answer, row-passed}
 use Rattle.steps.specs.declared.Step.{Step}
 use Rattle.image.specs.Chain.{All}
-use Rattle.machine.specs.Calls.{runTable, cutTable}
+use Rattle.machine.specs.Taking.{runTable, cutTable}
 use Rattle.index.specs.Reading.{findOf, Listing, listingOf, counted, listingIs, Recovery, recoveryOf, sizes, recoveryIs}
 use Rattle.index.specs.Reading.{findTable, listingTable, recoveryTable}
 use Rattle.writing.specs.declared.Made.{Made}

@@ -16,7 +16,7 @@ use Rattle.steps.specs.Model.{rule01}
 use Rattle.steps.specs.Settling.{AllSettled}
 use Rattle.steps.specs.Encoding.{stepAt}
 use Rattle.steps.specs.Refusals.{badImage}
-use Rattle.machine.specs.Calls.{runOf, cutOf}
+use Rattle.machine.specs.Taking.{runOf, cutOf}
 use Rattle.words.specs.WordLaws.{Bytes}
 use Rattle.image.specs.Map.{Entry, putIn, without}
 use Rattle.image.specs.Image.{SoundImage}

@@ -11,7 +11,7 @@ use Rattle.words.specs.WordLaws.{Bytes}
 use Rattle.steps.specs.Model.{lineWrites}
 use Rattle.steps.specs.Encoding.{stepAt}
 use Rattle.steps.specs.Refusals.{badImage}
-use Rattle.machine.specs.Calls.{runOf, cutOf}
+use Rattle.machine.specs.Taking.{runOf, cutOf}
 use Rattle.image.specs.Map.{Entry}
 use Rattle.image.specs.Potential.{phi}
 use Rattle.image.specs.Image.{leaves}

@@ -18,7 +18,7 @@ use Rattle.steps.specs.declared.Step.{Step}
 use Rattle.steps.specs.Model.{run}
 use Rattle.steps.specs.Encoding.{stepsOf}
 use Rattle.steps.specs.Refusals.{badImage}
-use Rattle.machine.specs.Calls.{storeWord}
+use Rattle.machine.specs.Taking.{storeWord}
 use Rattle.image.specs.Chain.{All, Sound, LowestFree}
 use Rattle.image.specs.ChainLaws.{Good, all-split, all-join, distinct-at, sound-good}
 use Rattle.image.specs.Image.{blocks, leaves}

@@ -22,7 +22,7 @@ use Rattle.steps.specs.Model.{line, made, rule01, settled}
 use Rattle.steps.specs.Encoding.{second, wellFormed, stepAt, formedAt}
 use Rattle.steps.specs.EncodingLaws.{words-formed, pair-of}
 use Rattle.steps.specs.Refusals.{badImage}
-use Rattle.machine.specs.Calls.{arrived, malformed, badList, outside, badArrivals}
+use Rattle.machine.specs.Taking.{arrived, malformed, badList, outside, badArrivals}
 use Rattle.image.specs.Map.{lookup}
 use Rattle.image.specs.ListLaws.{lookup-some, some-lookup}
 use Rattle.image.specs.Chain.{Has}

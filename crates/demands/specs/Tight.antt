@@ -6,7 +6,7 @@ use mathlib.Core.List.{List, [], _∷_}
 use Prim.Native.Nat.{ℕ, zero, suc, _+_, _*_, _≤_}
 use native.Mathlib.Omega.{arith}
 use lib.ListN.{replicate}
-use Rattle.machine.specs.Calls.{cutOf}
+use Rattle.machine.specs.Taking.{cutOf}
 use Rattle.writing.specs.Writing.{Outcome}
 use Rattle.demands.specs.Demand2.{put, answered}
 use Rattle.demands.specs.Demand3.{ran, taken, Run, blank, whole, cut}

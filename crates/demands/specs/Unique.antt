@@ -6,7 +6,7 @@ use mathlib.Core.List.{List, _++_}
 use Prim.Native.Nat.{ℕ}
 use lib.Dec.{eqb}
 use lib.ListN.{drop}
-use Rattle.machine.specs.CallLaws.{answer-of}
+use Rattle.machine.specs.TakingLaws.{answer-of}
 use Rattle.index.specs.declared.find.Found.{Found}
 use Rattle.index.specs.declared.find.Found.the-variants.{
   Value,

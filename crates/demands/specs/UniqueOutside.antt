@@ -2,7 +2,7 @@
 use mathlib.Core.Path.{_≡_, sym, _∙_}
 use mathlib.Core.List.{List}
 use Prim.Native.Nat.{ℕ}
-use Rattle.machine.specs.Calls.{Outcome as Taken, runOf, cutOf}
+use Rattle.machine.specs.Taking.{Outcome as Taken, runOf, cutOf}
 use Rattle.index.specs.Reading.{told, findOf, counted, listingIs, listingOf, sizes, recoveryIs, recoveryOf}
 use Rattle.writing.specs.Writing.{Outcome, putOf, setOf, delOf}
 use Rattle.board.specs.declared.reading.HutFound.{HutFound}

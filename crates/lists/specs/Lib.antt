@@ -18,6 +18,6 @@ pub mod Put
 pub mod AfterSplit
 -- In bytes: demand 2 and the rows of demand 3 for the three calls.
 pub mod Bytes
-pub mod Calls
+pub mod ServedCalls
 -- The slips that document 01 names, computed.
 pub mod Slips

@@ -17,7 +17,7 @@ use Rattle.steps.specs.declared.Step.the-variants.{Store as store, WriteBack as
 use Rattle.steps.specs.Encoding.{inImage, stepAt, formedAt}
 use Rattle.steps.specs.EncodingLaws.{pair-of}
 use Rattle.steps.specs.Refusals.{badImage}
-use Rattle.machine.specs.Calls.{malformed, badList}
+use Rattle.machine.specs.Taking.{malformed, badList}
 
 abbrev pub Fits : ℕ → Step → Type 0
 Fits z (store p v) = 8 * p + 8 ≤ z

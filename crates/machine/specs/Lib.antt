@@ -1,6 +1,6 @@
-pub mod Calls
+pub mod Taking
 pub mod Fits
 pub mod Tables
 pub mod Turns
 pub mod Lost
-pub mod CallLaws
+pub mod TakingLaws

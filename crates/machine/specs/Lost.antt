@@ -19,7 +19,7 @@ use Rattle.steps.specs.Settling.{EachStore, test-settled, settled-stores, settl
 use Rattle.steps.specs.LastFence.{lastFence, hadBack, in-reach, settled-reach, fence-below}
 use Rattle.steps.specs.Rules.{lawful01, lines-in-lines}
 use Rattle.steps.specs.Encoding.{stepAt}
-use Rattle.machine.specs.Calls.{arrived, outside, badArrivals}
+use Rattle.machine.specs.Taking.{arrived, outside, badArrivals}
 use Rattle.machine.specs.Fits.{Passed, Taken, line-inside}
 use Rattle.machine.specs.Tables.{Zero, Tally, Backs}
 

@@ -10,7 +10,7 @@ use crate::refusals::bad_arrivals;
 pub use crate::refusals::bad_image;
 use crate::refusals::bad_list;
 ghost use mathlib.Core.Path.{_≡_};
-ghost use Rattle.machine.specs.Calls.{ranAs, runOf, cutOf};
+ghost use Rattle.machine.specs.Taking.{ranAs, runOf, cutOf};
 
 // What run and cut answer.
 pub enum Ran {

@@ -9,7 +9,7 @@ ghost use Prim.Native.Nat.{_*_, _≤_};
 ghost use lib.ListN.{length};
 ghost use Rattle.steps.specs.Model.{line, arrives, land, run, cut};
 ghost use Rattle.steps.specs.Encoding.{stepAt};
-ghost use Rattle.machine.specs.Calls.{storeWord, arrived};
+ghost use Rattle.machine.specs.Taking.{storeWord, arrived};
 ghost use Rattle.machine.specs.Fits.{Fits, AllFit, Taken};
 ghost use Rattle.machine.specs.Lost.{Ready};
 

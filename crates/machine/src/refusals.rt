@@ -13,7 +13,7 @@ ghost use lib.ListN.{length};
 ghost use Rattle.steps.specs.Below.{anyBelow};
 ghost use Rattle.steps.specs.Encoding.{stepAt};
 ghost use Rattle.steps.specs.Refusals.{badImage};
-ghost use Rattle.machine.specs.Calls.{malformed, badList, arrived, badArrivals};
+ghost use Rattle.machine.specs.Taking.{malformed, badList, arrived, badArrivals};
 ghost use Rattle.machine.specs.Fits.{Passed, Taken};
 ghost use Rattle.machine.specs.Tables.{Backs};
 ghost use Rattle.machine.specs.Lost.{Ready, isAbove, aboveBy, lostBy, lostAt, lost};

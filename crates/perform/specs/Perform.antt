@@ -9,7 +9,7 @@ use Rattle.command.specs.Spelling.{textOf, Written}
 use Rattle.command.specs.declared.Command.{Command}
 use Rattle.command.specs.declared.Command.the-variants.{Put, Set, Del, Get, List as Listing, Malformed}
 use Rattle.steps.specs.Refusals.{answer}
-use Rattle.machine.specs.Calls.{runOf}
+use Rattle.machine.specs.Taking.{runOf}
 use Rattle.image.specs.Map.{Entry}
 use Rattle.index.specs.Reading.{Told, findOf, listingTable, entriesIn}
 use Rattle.writing.specs.Writing.{Outcome, putOf, setOf, delOf}

@@ -6,7 +6,7 @@ use Prim.Native.Nat.{ℕ}
 use lib.Dec.{eqb}
 use Rattle.command.specs.Spelling.{lineOf, textOf, Written}
 use Rattle.command.specs.Stores.{text-one}
-use Rattle.machine.specs.Calls.{runOf}
+use Rattle.machine.specs.Taking.{runOf}
 use Rattle.writing.specs.Writing.{Outcome}
 use Rattle.index.specs.Reading.{Told}
 use Rattle.command.specs.declared.Command.{Command}

@@ -11,7 +11,7 @@ ghost use mathlib.Core.Path.{_≡_};
 ghost use mathlib.Core.Bool.{cond};
 ghost use lib.Dec.{eqb};
 ghost use Rattle.command.specs.Stores.{Counts};
-ghost use Rattle.machine.specs.Calls.{runOf};
+ghost use Rattle.machine.specs.Taking.{runOf};
 ghost use Rattle.writing.specs.Writing.{putOf, setOf, delOf};
 ghost use Rattle.board.specs.Told.{madeIs};
 ghost use Rattle.perform.specs.Perform.{Done, room, taken};

@@ -7,7 +7,7 @@ use lib.ListN.{length}
 use Rattle.words.specs.Words.{storeWord}
 use Rattle.steps.specs.Model.{line, cut}
 use Rattle.steps.specs.Encoding.{stepAt}
-use Rattle.machine.specs.Calls.{arrived}
+use Rattle.machine.specs.Taking.{arrived}
 use Rattle.machine.specs.Tables.{Tally, tally-most, tally-next, counted-length}
 use Rattle.machine.specs.Lost.{arrives-by}
 use Rattle.machine.specs.Turns.{cut-next, cut-length}

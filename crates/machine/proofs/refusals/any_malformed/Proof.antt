@@ -5,7 +5,7 @@ use mathlib.Core.Path.{_≡_, refl, sym, ap, _∙_}
 use native.Mathlib.Omega.{arith}
 use Rattle.steps.specs.Below.{anyBelow}
 use Rattle.steps.specs.BelowLaws.{any-make}
-use Rattle.machine.specs.Calls.{malformed}
+use Rattle.machine.specs.Taking.{malformed}
 use Rattle.machine.specs.Turns.{any-next}
 use Rattle.machine.proofs.refusals.any_malformed.Statement.{statement}
 use Rattle.machine.proofs.refusals.any_malformed.Tie as tie

@@ -1,7 +1,7 @@
 -- `machine::refusals::bad_list` meets its contract: each return rewrites with the tests that led there.
 use borrow.Author.Needs.{needs}
 use borrow.Author.Tests.{lt-ltb, le-ltb}
-use Rattle.machine.specs.Calls.{badList}
+use Rattle.machine.specs.Taking.{badList}
 use Rattle.machine.proofs.refusals.bad_list.Statement.{statement}
 use Rattle.machine.proofs.refusals.bad_list.Tie as tie
 

@@ -22,7 +22,7 @@ use Rattle.steps.specs.Lists.{Each}
 use Rattle.steps.specs.Refusals.{row-passed, badImage}
 use Rattle.machine.specs.declared.Ran.{Ran}
 use Rattle.machine.specs.declared.Ran.the-variants.{Done, BadImage, BadList, BadArrivals}
-use Rattle.machine.specs.Calls.{ranAs, arrived, badList, outside, badArrivals, runOf, cutOf}
+use Rattle.machine.specs.Taking.{ranAs, arrived, badList, outside, badArrivals, runOf, cutOf}
 use Rattle.machine.specs.Fits.{Passed, passed, passes, line-inside}
 
 -- ---- the number tells the answer, so the contracts allow one result
