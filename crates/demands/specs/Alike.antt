@@ -16,13 +16,14 @@ use Rattle.image.specs.Map.{lookup}
 use Rattle.image.specs.Same.{Same, Slots}
 use Rattle.image.specs.CountLaws.{count-ext, count-slots}
 use Rattle.image.specs.ChainLaws.{Agree, all-split}
-use Rattle.image.specs.Image.{leaves, SoundImage, Alike}
+use Rattle.image.specs.Image.{leaves, Alike}
 use Rattle.image.specs.ImageLaws.{alike-agree}
 use Rattle.verdict.specs.Place.{reachesTo, targetFrom}
 use Rattle.steps.specs.Refusals.{row-given}
-use Rattle.index.specs.Reading.{isSound, chainOf, entriesIn, isNone, Told as Found, Listing, Recovery}
-use Rattle.index.specs.SoundTest.{sound-test, sound-chain}
+use Rattle.index.specs.Reading.{isSound, entriesIn, isNone, Told as Found, Listing, Recovery}
+use Rattle.index.specs.SoundTest.{sound-test}
 use Rattle.index.specs.Agreement.{foundIn, find-accepted}
+use Rattle.index.specs.AlikeReading.{same-bad, first-sound, second-sound, chain-first, same-chain}
 use Rattle.index.specs.AlikeReading.{alike-find, alike-listing, alike-recovery}
 use Rattle.writing.specs.Writing.{targetOf, freeOf, isAmong, isMissing, isFull, shortList, putTable, changeTable}
 use Rattle.demands.specs.Accepted.{judged}
@@ -95,29 +96,14 @@ target-same I J k t (b ∷ bs) a =
     ∙ target-same I J k (cond (reachesTo (I b) k) b t) bs (a .1)
 
 module _ (l m : List ℕ) (a : Alike l m) (fine : badImage (length l) ≡ false) where
-  fine-too : badImage (length m) ≡ false
-  fine-too = ap badImage (a .long) ∙ fine
-
-  first : SoundImage l
-  first = record { chain = a .chain; sound = a .first }
-
-  second : SoundImage m
-  second = record { chain = a .chain; sound = a .second }
-
   same-sound : isSound m ≡ isSound l
-  same-sound = sound-test m fine-too second ∙ sym (sound-test l fine first)
-
-  chain-first : chainOf l ≡ a .chain
-  chain-first = sound-chain l (a .chain) fine (a .first)
-
-  same-chain : chainOf m ≡ chainOf l
-  same-chain = sound-chain m (a .chain) fine-too (a .second) ∙ sym chain-first
+  same-sound = sound-test m (same-bad a ∙ fine) (second-sound a) ∙ sym (sound-test l fine (first-sound a))
 
   -- find tells whether the key is there
   same-none : (k : ℕ) → isNone (lookup k (entriesIn m)) ≡ isNone (lookup k (entriesIn l))
   same-none k =
       by (lookup k (entriesIn m)) (lookup k (entriesIn l))
-      (sym (find-accepted m fine-too second k) ∙ alike-find l m a k ∙ find-accepted l fine first k)
+      (sym (find-accepted m (same-bad a ∙ fine) (second-sound a) k) ∙ alike-find l m a k ∙ find-accepted l fine (first-sound a) k)
     where
       absent : (v : Option ℕ) → isNone v ≡ eqb (foundIn v .answer) 5
       absent (some v) = refl
@@ -128,16 +114,16 @@ module _ (l m : List ℕ) (a : Alike l m) (fine : badImage (length l) ≡ false)
 
   same-target : (k : ℕ) → targetOf m k ≡ targetOf l k
   same-target k =
-      ap (targetFrom (leaves m) k 0) (same-chain ∙ chain-first)
+      ap (targetFrom (leaves m) k 0) (same-chain a fine ∙ chain-first a fine)
       ∙ target-same (leaves l) (leaves m) k 0 (a .chain) (alike-agree l m a)
-      ∙ ap (targetFrom (leaves l) k 0) (sym chain-first)
+      ∙ ap (targetFrom (leaves l) k 0) (sym (chain-first a fine))
 
   -- the target leaf is of the chain
   same-leaf : (k : ℕ) → Slots (leaves l (targetOf l k)) (leaves m (targetOf l k))
   same-leaf k =
-      let J = judged l k fine (sound-test l fine first) in
+      let J = judged l k fine (sound-test l fine (first-sound a)) in
       all-split (λ b. Same (leaves l b) (leaves m b)) (J .front) (targetOf l k ∷ J .behind)
-      (subst (λ (bs : List ℕ). Agree bs (leaves l) (leaves m)) (sym chain-first ∙ J .chain) (alike-agree l m a)) .1 .0 .slots
+      (subst (λ (bs : List ℕ). Agree bs (leaves l) (leaves m)) (sym (chain-first a fine) ∙ J .chain) (alike-agree l m a)) .1 .0 .slots
 
   same-full : (k : ℕ) → isFull (leaves m (targetOf m k)) ≡ isFull (leaves l (targetOf l k))
   same-full k =
@@ -145,7 +131,7 @@ module _ (l m : List ℕ) (a : Alike l m) (fine : badImage (length l) ≡ false)
       ∙ (λ i. eqb (count-slots (same-leaf k) i) (same-leaf k .size i))
 
   same-free : freeOf m ≡ freeOf l
-  same-free = λ i. lowest (λ b. not (isAmong b (same-chain i))) (a .long i / 256) 0
+  same-free = λ i. lowest (λ b. not (isAmong b (same-chain a fine i))) (a .long i / 256) 0
 
   put-same : (list : List ℕ) (k : ℕ) → answer (putTable m list k) ≡ answer (putTable l list k)
   put-same list k = λ i.
@@ -162,12 +148,12 @@ module _ (l m : List ℕ) (a : Alike l m) (list : List ℕ) (k : ℕ) where
   alike-put : answer (putTable m list k) ≡ answer (putTable l list k)
   alike-put =
       by-test (λ b. badImage (length l) ≡ b → answer (putTable m list k) ≡ answer (putTable l list k)) (badImage (length l))
-      (λ x e. row-given 1 _ (ap badImage (a .long) ∙ e) ∙ sym (row-given 1 _ e)) (λ x e. put-same l m a e list k) refl
+      (λ x e. row-given 1 _ (same-bad a ∙ e) ∙ sym (row-given 1 _ e)) (λ x e. put-same l m a e list k) refl
 
   alike-change : answer (changeTable m list k) ≡ answer (changeTable l list k)
   alike-change =
       by-test (λ b. badImage (length l) ≡ b → answer (changeTable m list k) ≡ answer (changeTable l list k)) (badImage (length l))
-      (λ x e. row-given 1 _ (ap badImage (a .long) ∙ e) ∙ sym (row-given 1 _ e)) (λ x e. change-same l m a e list k) refl
+      (λ x e. row-given 1 _ (same-bad a ∙ e) ∙ sym (row-given 1 _ e)) (λ x e. change-same l m a e list k) refl
 
 -- ---- THE DEMAND
 
