@@ -1,8 +1,7 @@
--- To believe: Spelling. Reading and Stores have the shape of the code; Exact and Lines say what Reading means.
+-- To believe: Spelling. Reading has the shape of the code; Exact and Lines say what Reading means.
 pub mod Spelling
 pub mod Reading
 pub mod ReadingLaws
 pub mod Decimal
 pub mod Exact
 pub mod Lines
-pub mod Stores

@@ -1,11 +1,9 @@
--- Document 01, "The bench program": the lines of an input, the spelling of a command, and the lines of the output.
-use mathlib.Core.Path.{_≡_}
+-- Document 01, "The bench program": the lines of an input, and the spelling of a command.
 use Prim.Native.Nat.{ℕ, zero, suc, _+_, _/_, _%_, _^_, _<_}
 use mathlib.Core.Bool.{Bool, true, false}
-use mathlib.Core.List.{List, [], _∷_, _++_, map}
+use mathlib.Core.List.{List, [], _∷_, _++_}
 use mathlib.Core.Option.{Option, some, none}
 use lib.Dec.{eqb, ltb}
-use lib.ListN.{length, drop}
 use Rattle.command.specs.declared.Command.{Command}
 use Rattle.command.specs.declared.Command.the-variants.{Put, Set, Del, Get, List as Listing, Malformed}
 
@@ -75,16 +73,3 @@ InRange (Del k) = k < 2 ^ 64
 InRange (Get k) = k < 2 ^ 64
 InRange Listing = Unit
 InRange Malformed = Unit
-
--- "Each output line ends in byte 10": the line that tells some numbers
-abbrev pub lineOf : List ℕ → List ℕ
-lineOf ns = parted (map decimal ns) ++ 10 ∷ []
-
--- some lines, one behind the other
-unfoldable pub textOf : List (List ℕ) → List ℕ
-textOf [] = []
-textOf (ns ∷ lines) = lineOf ns ++ textOf lines
-
--- a line written at the start of a buffer: n is its length, and what stands behind it is as it was
-abbrev pub Written : List ℕ → List ℕ → List ℕ → ℕ → Type 0
-Written old line new n = (n ≡ length line) × (new ≡ line ++ drop n old)

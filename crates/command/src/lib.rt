@@ -1,11 +1,7 @@
-// The bench program's lines: commands read from them, and the lines it answers with.
-mod answer;
+// The bench program's lines, and the commands read from them.
 mod number;
 mod reader;
 
-pub use answer::answer_line;
-pub use answer::pair_line;
-pub use answer::pair_lines;
 use number::Number;
 use number::spelled_by;
 pub use reader::Reader;

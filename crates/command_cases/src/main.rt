@@ -2,11 +2,19 @@
 // kind (1 put, 2 set, 3 del, 4 get, 5 list, 9 malformed), key and value; behind the last line how many lines and bytes.
 use command::Command;
 use command::Next;
+use libc::STDIN_FILENO;
+use libc::STDOUT_FILENO;
+
+fn field(n: u64, mark: &[u8]) {
+    io::print_decimal(STDOUT_FILENO, n);
+    io::write_all(STDOUT_FILENO, mark);
+}
 
 fn tell(line: u64, kind: u64, key: u64, value: u64) {
-    let mut buf = [0u8; 84];
-    let n = command::answer_line(&mut buf, line, kind, key, value);
-    io::write_all(1, &buf[..n]);
+    field(line, b"\t");
+    field(kind, b"\t");
+    field(key, b"\t");
+    field(value, b"\n");
 }
 
 fn tell_command(line: u64, command: Command) {
@@ -21,9 +29,8 @@ fn tell_command(line: u64, command: Command) {
 }
 
 fn tell_counts(lines: u64, bytes: u64) {
-    let mut buf = [0u8; 42];
-    let n = command::pair_line(&mut buf, lines, bytes);
-    io::write_all(1, &buf[..n]);
+    field(lines, b"\t");
+    field(bytes, b"\n");
 }
 
 fn read_all(input: &[u8]) {
@@ -49,6 +56,6 @@ fn main() {
     read_all(b"list");
     read_all(b"list\n");
     let mut buf = [0u8; 4096];
-    let n = io::read_full(0, &mut buf);
+    let n = io::read_full(STDIN_FILENO, &mut buf);
     read_all(&buf[..n]);
 }

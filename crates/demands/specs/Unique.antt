@@ -30,7 +30,7 @@ use Rattle.writing.specs.Writing.{Outcome, madeAs}
 use Rattle.command.specs.declared.Command.{Command}
 use Rattle.command.specs.declared.Next.{Next}
 use Rattle.command.specs.Reading.{parseOf, lineAt}
-use Rattle.command.specs.Spelling.{Written}
+use Rattle.perform.specs.Perform.{Written}
 use Rattle.demands.specs.Calls.{Asked, find, listing, recovery, put, set, del, run, cut, Result, Allowed}
 
 -- ---- a way of telling from which the thing told can be had again is the same for no two things

@@ -10,8 +10,7 @@ use Rattle.board.specs.declared.reading.HutListed.{HutListed}
 use Rattle.board.specs.declared.reading.HutRecovered.{HutRecovered}
 use Rattle.board.specs.declared.making.HutMade.{HutMade}
 use Rattle.board.specs.Told.{madeIs}
-use Rattle.command.specs.Spelling.{textOf}
-use Rattle.perform.specs.Perform.{Performed, Done}
+use Rattle.perform.specs.Perform.{textOf, Performed, Done}
 use Rattle.demands.specs.Calls.{Asked, find, listing, recovery, put, set, del, run, cut}
 use Rattle.demands.specs.Unique.{one-answer}
 

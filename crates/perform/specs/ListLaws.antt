@@ -17,8 +17,8 @@ use Rattle.image.specs.Image.{blocks, leaves}
 use Rattle.image.specs.Blocks.{view-size}
 use Rattle.words.specs.Words.{reads}
 use Rattle.index.specs.Reading.{chainFrom, chainOf, entriesIn, listingTable, Listing, Counted, counted, listingIs, over, listed, listingOf}
-use Rattle.command.specs.Stores.{rowsTo}
 use Rattle.perform.specs.Perform.{row, rows}
+use Rattle.perform.specs.Printing.{rowsTo}
 
 -- ---- how many entries there can be
 

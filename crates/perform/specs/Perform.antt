@@ -1,11 +1,11 @@
 -- Document 01, "The bench program": what each command does to the image, and the lines that it prints. To be believed.
 use mathlib.Core.Path.{_≡_}
 use mathlib.Core.Bool.{Bool, cond}
-use mathlib.Core.List.{List, [], _∷_, map}
+use mathlib.Core.List.{List, [], _∷_, _++_, map}
 use Prim.Native.Nat.{ℕ}
 use lib.Dec.{eqb, ltb}
-use lib.ListN.{length, replicate}
-use Rattle.command.specs.Spelling.{textOf, Written}
+use lib.ListN.{length, drop, replicate}
+use Rattle.command.specs.Spelling.{parted, decimal}
 use Rattle.command.specs.declared.Command.{Command}
 use Rattle.command.specs.declared.Command.the-variants.{Put, Set, Del, Get, List as Listing, Malformed}
 use Rattle.steps.specs.Refusals.{answer}
@@ -17,6 +17,19 @@ use Rattle.writing.specs.Writing.{Outcome, putOf, setOf, delOf}
 -- "at most 65,536 bytes (more prints the one line `9 0 0 0`, with tabs, and does nothing else)"
 abbrev pub tooLong : List ℕ → Bool
 tooLong input = ltb 65536 (length input)
+
+-- "Each output line ends in byte 10": the line that tells some numbers
+abbrev pub lineOf : List ℕ → List ℕ
+lineOf ns = parted (map decimal ns) ++ 10 ∷ []
+
+-- some lines, one behind the other
+unfoldable pub textOf : List (List ℕ) → List ℕ
+textOf [] = []
+textOf (ns ∷ lines) = lineOf ns ++ textOf lines
+
+-- a line written at the start of a buffer: n is its length, and what stands behind it is as it was
+abbrev pub Written : List ℕ → List ℕ → List ℕ → ℕ → Type 0
+Written old line new n = (n ≡ length line) × (new ≡ line ++ drop n old)
 
 -- the image after a command, and the numbers of each line that it prints
 pub record Performed : Type 0 where

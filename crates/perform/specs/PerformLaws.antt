@@ -4,13 +4,12 @@ use mathlib.Core.Bool.{cond}
 use mathlib.Core.List.{List, [], _∷_}
 use Prim.Native.Nat.{ℕ}
 use lib.Dec.{eqb}
-use Rattle.command.specs.Spelling.{lineOf, textOf, Written}
-use Rattle.command.specs.Stores.{text-one}
 use Rattle.machine.specs.Taking.{runOf}
 use Rattle.writing.specs.Writing.{Outcome}
 use Rattle.index.specs.Reading.{Told}
 use Rattle.command.specs.declared.Command.{Command}
-use Rattle.perform.specs.Perform.{Done, taken, got, performed}
+use Rattle.perform.specs.Perform.{lineOf, textOf, Written, Done, taken, got, performed}
+use Rattle.perform.specs.Printing.{text-one}
 
 -- a line written is the text of that line
 pub line-text : (old : List ℕ) (ns : List ℕ) (new : List ℕ) (n : ℕ) → Written old (lineOf ns) new n → Written old (textOf (ns ∷ [])) new n

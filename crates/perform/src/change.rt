@@ -1,20 +1,20 @@
 // Put, set and del: the list made is run whole, and the counts are told.
 use crate::ROOM;
+use crate::answer::answer_line;
 use board::making::HutMade;
 use board::making::hut_del;
 use board::making::hut_put;
 use board::making::hut_set;
 use board::taking::hut_run;
-use command::answer_line;
 use steps::LIST_ROOM;
 ghost use mathlib.Core.Path.{_≡_};
 ghost use mathlib.Core.Bool.{cond};
 ghost use lib.Dec.{eqb};
-ghost use Rattle.command.specs.Stores.{Counts};
 ghost use Rattle.machine.specs.Taking.{runOf};
 ghost use Rattle.writing.specs.Writing.{putOf, setOf, delOf};
 ghost use Rattle.board.specs.Told.{madeIs};
 ghost use Rattle.perform.specs.Perform.{Done, room, taken};
+ghost use Rattle.perform.specs.Printing.{Counts};
 
 // "Accepted lists are run whole."
 fn run_accepted(image: &mut [u8], list: &[u64], answer: u64, steps: u64)

@@ -1,18 +1,18 @@
 // The bench program's commands done on its image of 4 blocks: each gives the bytes that it prints.
+mod answer;
 mod change;
 mod reading;
 
+use answer::answer_line;
 use change::do_del;
 use change::do_put;
 use change::do_set;
 use command::Command;
-use command::answer_line;
 use reading::do_get;
 use reading::do_list;
 ghost use mathlib.Core.Path.{_≡_};
-ghost use Rattle.command.specs.Spelling.{textOf, Written};
-ghost use Rattle.command.specs.Stores.{Counts};
-ghost use Rattle.perform.specs.Perform.{tooLong, refused, performed, Done};
+ghost use Rattle.perform.specs.Perform.{tooLong, textOf, Written, refused, performed, Done};
+ghost use Rattle.perform.specs.Printing.{Counts};
 
 // The lines of 56 entries, which is all that 4 blocks hold, each of two numbers of at most 20 digits.
 pub const ROOM: usize = 2352;

@@ -1,13 +1,12 @@
 // Get and list.
 use crate::ROOM;
+use crate::answer::pair_line;
+use crate::answer::pair_lines;
 use board::reading::hut_find;
 use board::reading::hut_listing;
-use command::pair_line;
-use command::pair_lines;
-ghost use Rattle.command.specs.Spelling.{textOf, Written};
-ghost use Rattle.command.specs.Stores.{Counts};
 ghost use Rattle.index.specs.Reading.{findOf};
-ghost use Rattle.perform.specs.Perform.{got, rows};
+ghost use Rattle.perform.specs.Perform.{textOf, Written, got, rows};
+ghost use Rattle.perform.specs.Printing.{Counts};
 
 pub fn do_get(image: &[u8], key: u64, out: &mut [u8; ROOM]) -> usize
     ensures { λ r. ⌜ Written (now (out .entry)) (textOf (got (findOf (now (image .entry)) key))) (now (out .exit)) r ⌝ }

@@ -1,17 +1,17 @@
--- `command::answer::write_number` meets its contract: the last digit of n stands behind those of n / 10. The measure is n.
+-- `perform::answer::write_number` meets its contract: the last digit of n stands behind those of n / 10. The measure is n.
 use mathlib.Core.Path.{ap₂, _∙_}
 use Prim.Native.Nat.{ℕ, _+_, _%_, _<_, _≤_}
 use mathlib.Core.List.{List}
 use native.Mathlib.Omega.{arith}
 use lib.ListN.{set, length-set}
-use Rattle.command.specs.Stores.{length-small, length-more, sets-small, sets-more}
+use Rattle.perform.specs.Printing.{length-small, length-more, sets-small, sets-more}
 use borrow.Fn.Kinds.{In}
 use borrow.Fn.PlainCycle.{Measures, is, falls, and}
-use Rattle.command.proofs.answer.write_number.Reads as write-number
-use Rattle.command.proofs.answer.write_number.Kinds as write-number-kinds
-use Rattle.command.proofs.answer.+write_number.Lts-write_number as lts
-use Rattle.command.proofs.answer.+write_number.{statement}
-use Rattle.command.proofs.answer.+write_number.Tie.{close}
+use Rattle.perform.proofs.answer.write_number.Reads as write-number
+use Rattle.perform.proofs.answer.write_number.Kinds as write-number-kinds
+use Rattle.perform.proofs.answer.+write_number.Lts-write_number as lts
+use Rattle.perform.proofs.answer.+write_number.{statement}
+use Rattle.perform.proofs.answer.+write_number.Tie.{close}
 
 abbrev μ : Measures 1 write-number-kinds.ps ℕ
 μ κs a = a .1 .1 .0

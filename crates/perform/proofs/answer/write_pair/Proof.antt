@@ -1,9 +1,9 @@
--- `command::answer::write_pair` meets its contract: two fields, one behind the other.
+-- `perform::answer::write_pair` meets its contract: two fields, one behind the other.
 use native.Mathlib.Omega.{arith}
 use borrow.Author.Needs.{needs}
-use Rattle.command.specs.Stores.{marked, stored-behind, marked-short}
-use Rattle.command.proofs.answer.write_pair.Statement.{statement}
-use Rattle.command.proofs.answer.write_pair.Tie as tie
+use Rattle.perform.specs.Printing.{marked, stored-behind, marked-short}
+use Rattle.perform.proofs.answer.write_pair.Statement.{statement}
+use Rattle.perform.proofs.answer.write_pair.Tie as tie
 
 requires-2 : tie.Need-write-field-requires-2
 requires-2 c κs =

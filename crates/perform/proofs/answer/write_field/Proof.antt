@@ -1,12 +1,12 @@
--- `command::answer::write_field` meets its contract: a number takes at most 20 of the 21 bytes.
+-- `perform::answer::write_field` meets its contract: a number takes at most 20 of the 21 bytes.
 use mathlib.Core.Path.{refl}
 use mathlib.Core.List.{[], _∷_}
 use native.Mathlib.Omega.{arith}
 use borrow.Author.Needs.{needs}
 use Rattle.command.specs.Spelling.{decimal}
-use Rattle.command.specs.Stores.{stored-behind, decimal-short}
-use Rattle.command.proofs.answer.write_field.Statement.{statement}
-use Rattle.command.proofs.answer.write_field.Tie as tie
+use Rattle.perform.specs.Printing.{stored-behind, decimal-short}
+use Rattle.perform.proofs.answer.write_field.Statement.{statement}
+use Rattle.perform.proofs.answer.write_field.Tie as tie
 
 slice-write : tie.Need-slice-write-buf
 slice-write c =

@@ -1,10 +1,10 @@
--- `command::answer::answer_line` meets its contract: two pairs, one behind the other.
+-- `perform::answer::answer_line` meets its contract: two pairs, one behind the other.
 use native.Mathlib.Omega.{arith}
 use borrow.Author.Needs.{needs}
 use mathlib.Core.List.{_++_}
-use Rattle.command.specs.Stores.{marked, stored-behind, pair-short, line-written, pairs-are-line}
-use Rattle.command.proofs.answer.answer_line.Statement.{statement}
-use Rattle.command.proofs.answer.answer_line.Tie as tie
+use Rattle.perform.specs.Printing.{marked, stored-behind, pair-short, line-written, pairs-are-line}
+use Rattle.perform.proofs.answer.answer_line.Statement.{statement}
+use Rattle.perform.proofs.answer.answer_line.Tie as tie
 
 requires-2 : tie.Need-write-pair-requires-2
 requires-2 c κs =

@@ -2,8 +2,9 @@
 ghost use Prim.Native.Nat.{_+_, _*_, _≤_};
 ghost use mathlib.Core.List.{[], _∷_, _++_};
 ghost use lib.ListN.{length};
-ghost use Rattle.command.specs.Spelling.{decimal, lineOf, textOf, Written};
-ghost use Rattle.command.specs.Stores.{Stored, marked, rowsTo, Counts};
+ghost use Rattle.command.specs.Spelling.{decimal};
+ghost use Rattle.perform.specs.Perform.{lineOf, textOf, Written};
+ghost use Rattle.perform.specs.Printing.{Stored, marked, rowsTo, Counts};
 
 // Writes a number from a place on, and tells the place behind it: the digits of n / 10 first, then the last one.
 fn write_number(buf: &mut [u8], at: usize, n: u64) -> usize

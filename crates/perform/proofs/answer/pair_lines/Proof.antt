@@ -1,14 +1,14 @@
--- `command::answer::pair_lines` meets its contract. The invariant: the lines of the first i pairs stand in the buffer.
+-- `perform::answer::pair_lines` meets its contract. The invariant: the lines of the first i pairs stand in the buffer.
 use mathlib.Core.Path.{_≡_, refl, ap, _∙_}
 use Prim.Native.Nat.{ℕ, _*_, _-_, _≤_}
 use native.Mathlib.Omega.{arith}
 use borrow.Author.Needs.{needs}
 use denote.Ref.{now}
 use lib.ListN.{length, getD}
-use Rattle.command.specs.Spelling.{textOf}
-use Rattle.command.specs.Stores.{Stored, rowsTo, pair-short, line-written, row-stored}
-use Rattle.command.proofs.answer.pair_lines.Statement.{statement}
-use Rattle.command.proofs.answer.pair_lines.Tie as tie
+use Rattle.perform.specs.Perform.{textOf}
+use Rattle.perform.specs.Printing.{Stored, rowsTo, pair-short, line-written, row-stored}
+use Rattle.perform.proofs.answer.pair_lines.Statement.{statement}
+use Rattle.perform.proofs.answer.pair_lines.Tie as tie
 
 abbrev Inv-loop : tie.InvT-loop
 Inv-loop buf₀ keys values n end₀ i₀ buf end i =

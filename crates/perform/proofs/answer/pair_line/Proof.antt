@@ -1,10 +1,10 @@
--- `command::answer::pair_line` meets its contract: a pair with the line end behind it is a line.
+-- `perform::answer::pair_line` meets its contract: a pair with the line end behind it is a line.
 use native.Mathlib.Omega.{arith}
 use borrow.Author.Needs.{needs}
 use mathlib.Core.List.{_++_}
-use Rattle.command.specs.Stores.{marked, pair-short, line-written, pair-is-line}
-use Rattle.command.proofs.answer.pair_line.Statement.{statement}
-use Rattle.command.proofs.answer.pair_line.Tie as tie
+use Rattle.perform.specs.Printing.{marked, pair-short, line-written, pair-is-line}
+use Rattle.perform.proofs.answer.pair_line.Statement.{statement}
+use Rattle.perform.proofs.answer.pair_line.Tie as tie
 
 returns : tie.Need-returns
 returns c =
