@@ -19,7 +19,7 @@ use Rattle.leaf.specs.declared.search.Slot.the-variants.{At, Missing}
 use Rattle.steps.specs.declared.Step.{Step}
 use Rattle.steps.specs.Model.{rule01}
 use Rattle.steps.specs.Rules.{lawful01}
-use Rattle.steps.specs.Refusals.{badImage, row-passed}
+use Rattle.steps.specs.Refusals.{answer, badImage, row-passed}
 use Rattle.image.specs.Blocks.{view-size}
 use Rattle.image.specs.Chain.{Sound, LowestFree}
 use Rattle.image.specs.ChainLaws.{Good, all-split, sound-good}
@@ -42,7 +42,7 @@ use Rattle.lists.specs.ServedCalls.{set-call, del-call, put-call}
 use Rattle.lists.specs.Sizes.{set-size, del-size, put-size}
 use Rattle.lists.specs.Bytes.{ServedBytes}
 use Rattle.writing.specs.Writing.{targetOf, beforeOf, placeOf, freeOf, isMissing, isFull, blockOr0}
-use Rattle.writing.specs.Writing.{Outcome, outcome, shortList, atSlot, setOf, delOf, putOf}
+use Rattle.writing.specs.Writing.{Outcome, outcome, shortList, changeTable, atSlot, setOf, delOf, putOf}
 use Rattle.writing.specs.ChangeLaws.{noted-target, noted-before, noted-value}
 use Rattle.demands.specs.Free.{free-lowest}
 
@@ -139,13 +139,21 @@ module _ (l list : List ℕ) (k : ℕ) (bytes : Bytes l) where
       let c = row-passed 3 (not (isSound l)) rest (omega arith) (b .1) in
       (a .0, ltb-false (length list) 112 (b .0), not-false (isSound l) (c .0), c .1)
 
+  -- and what set and del then know of their key
+  change-rows : answer (changeTable l list k) ≡ 0
+      → (badImage (length l) ≡ false) × (112 ≤ length list) × (isSound l ≡ true) × Judged l k × Held l k
+  change-rows e =
+      let r = rows (cond (isNone (lookup k (entriesIn l))) 5 0) e in
+      let J = judged l k (r .0) (r .2) in
+      (r .0, r .1, r .2, J, held l k J (row-passed 5 (isNone (lookup k (entriesIn l))) 0 (omega arith) (r .3) .0))
+
   pub set-accepted : (v : ℕ) → v < 2 ^ 64 → setOf l list k v .answer ≡ 0
       → Accepted l list (setOf l list k v) (putIn k v (entriesIn l)) 7
   unfolding setOf
   set-accepted v small e =
-      let r = rows (cond (isNone (lookup k (entriesIn l))) 5 0) e in
-      let J = judged l k (r .0) (r .2) in
-      let h = held l k J (row-passed 5 (isNone (lookup k (entriesIn l))) 0 (omega arith) (r .3) .0) in
+      let r = change-rows e in
+      let J = r .3 in
+      let h = r .4 in
       let b = targetOf l k in
       record {
         made = setList b (h .slot) v;
@@ -163,9 +171,9 @@ module _ (l list : List ℕ) (k : ℕ) (bytes : Bytes l) where
   pub del-accepted : delOf l list k .answer ≡ 0 → Accepted l list (delOf l list k) (without k (entriesIn l)) 7
   unfolding delOf
   del-accepted e =
-      let r = rows (cond (isNone (lookup k (entriesIn l))) 5 0) e in
-      let J = judged l k (r .0) (r .2) in
-      let h = held l k J (row-passed 5 (isNone (lookup k (entriesIn l))) 0 (omega arith) (r .3) .0) in
+      let r = change-rows e in
+      let J = r .3 in
+      let h = r .4 in
       let b = targetOf l k in
       record {
         made = delList (reads l) (beforeOf l k) b (h .slot);

@@ -79,11 +79,10 @@ reaches-same {L} {M} k S = ap (λ (n : ℕ). not (eqb (countTo (atMost M k) n) 0
   where
     by-slot : (s : ℕ) → atMost M k s ≡ atMost L k s
     by-slot s =
-        by-test (λ b. L .occ s ≡ b → atMost M k s ≡ atMost L k s) (L .occ s)
-        (λ x o. λ i. both (S .occ s i) (leb (S .key s o i) k))
-        (λ x o. ap (λ (b : Bool). both b (leb (M .key s) k)) (S .occ s ∙ o)
+        by-test (λ b. atMost M k s ≡ atMost L k s) (L .occ s)
+        (λ o. λ i. both (S .occ s i) (leb (S .key s o i) k))
+        (λ o. ap (λ (b : Bool). both b (leb (M .key s) k)) (S .occ s ∙ o)
         ∙ sym (ap (λ (b : Bool). both b (leb (L .key s) k)) o))
-        refl
 
     e : countTo (atMost M k) (L .size) ≡ countTo (atMost L k) (L .size)
     e = count-ext (atMost M k) (atMost L k) (L .size) (λ s h. by-slot s)
@@ -147,13 +146,13 @@ module _ (l m : List ℕ) (a : Alike l m) (fine : badImage (length l) ≡ false)
 module _ (l m : List ℕ) (a : Alike l m) (list : List ℕ) (k : ℕ) where
   alike-put : answer (putTable m list k) ≡ answer (putTable l list k)
   alike-put =
-      by-test (λ b. badImage (length l) ≡ b → answer (putTable m list k) ≡ answer (putTable l list k)) (badImage (length l))
-      (λ x e. row-given 1 _ (same-bad a ∙ e) ∙ sym (row-given 1 _ e)) (λ x e. put-same l m a e list k) refl
+      by-test (λ b. answer (putTable m list k) ≡ answer (putTable l list k)) (badImage (length l))
+      (λ e. row-given 1 _ (same-bad a ∙ e) ∙ sym (row-given 1 _ e)) (λ e. put-same l m a e list k)
 
   alike-change : answer (changeTable m list k) ≡ answer (changeTable l list k)
   alike-change =
-      by-test (λ b. badImage (length l) ≡ b → answer (changeTable m list k) ≡ answer (changeTable l list k)) (badImage (length l))
-      (λ x e. row-given 1 _ (same-bad a ∙ e) ∙ sym (row-given 1 _ e)) (λ x e. change-same l m a e list k) refl
+      by-test (λ b. answer (changeTable m list k) ≡ answer (changeTable l list k)) (badImage (length l))
+      (λ e. row-given 1 _ (same-bad a ∙ e) ∙ sym (row-given 1 _ e)) (λ e. change-same l m a e list k)
 
 -- ---- THE DEMAND
 

@@ -47,10 +47,9 @@ given-of [] [] m n h e = absurd (omega arith)
 given-of [] (c ∷ cs) m n h e = absurd m
 given-of (row ∷ rows) [] m n h e = absurd m
 given-of (row ∷ rows) (c ∷ cs) m n h e =
-    by-test (λ b. row .1 ≡ b → cond b (row .0) (answer rows) ≡ n → Given n (c ∷ cs)) (row .1)
-    (λ x q z. inl (sym (m .0) ∙ z, m .1 .0 q))
-    (λ x q z. inr (λ y. differ (sym (m .1 .1 y) ∙ q), given-of rows cs (m .2 q) n h z))
-    refl
+    by-test (λ b. cond b (row .0) (answer rows) ≡ n → Given n (c ∷ cs)) (row .1)
+    (λ q z. inl (sym (m .0) ∙ z, m .1 .0 q))
+    (λ q z. inr (λ y. differ (sym (m .1 .1 y) ∙ q), given-of rows cs (m .2 q) n h z))
     e
 
 -- a sentence that does not hold leaves the answer to the rows behind it

@@ -123,8 +123,8 @@ module _ (l : List ℕ) (fine : badImage (length l) ≡ false) where
 full-means : (l : List ℕ) (b : ℕ) → Means (isFull (leaves l b)) ((s : ℕ) → s < 14 → Taken (leaves l b) s)
 unfolding count
 full-means l b = (
-  λ e s h. by-test (λ t. L .occ s ≡ t → L .occ s ≡ true) (L .occ s) (λ x q. q)
-      (λ x q. absurd (omega (arith, count-less (L .occ) (L .size) s (omega (arith, z)) q, eqb-true (count L) (L .size) e))) refl,
+  λ e s h. by-test (λ t. L .occ s ≡ true) (L .occ s) (λ q. q)
+      (λ q. absurd (omega (arith, count-less (L .occ) (L .size) s (omega (arith, z)) q, eqb-true (count L) (L .size) e))),
   λ f. eq-eqb (count L) (L .size) (count-all (L .occ) (L .size) (λ s h. f s (omega (arith, z)))),
 )
   where
@@ -137,8 +137,8 @@ full-means l b = (
 among-means : (b : ℕ) (xs : List ℕ) → Means (isAmong b xs) (Among b xs)
 among-means b [] = (λ e. differ (sym e), λ h. absurd h)
 among-means b (x ∷ xs) = (
-  λ e. by-test (λ t. eqb x b ≡ t → cond t true (isAmong b xs) ≡ true → Among b (x ∷ xs)) (eqb x b)
-      (λ u q w. inl (eqb-true x b q)) (λ u q w. inr (among-means b xs .0 w)) refl e,
+  λ e. by-test (λ t. cond t true (isAmong b xs) ≡ true → Among b (x ∷ xs)) (eqb x b)
+      (λ q w. inl (eqb-true x b q)) (λ q w. inr (among-means b xs .0 w)) e,
   λ h. elim h [
     | inl p ↦ ap (λ (t : Bool). cond t true (isAmong b xs)) (eq-eqb x b p)
     | inr p ↦ by-test (λ t. cond t true (isAmong b xs) ≡ true) (eqb x b) (λ q. refl) (λ q. among-means b xs .1 p)

@@ -6,7 +6,9 @@ use mathlib.Core.List.{List, _++_}
 use Prim.Native.Nat.{ℕ}
 use lib.Dec.{eqb}
 use lib.ListN.{drop}
-use Rattle.machine.specs.TakingLaws.{answer-of}
+use Rattle.machine.specs.Taking.{ranAs}
+use Rattle.machine.specs.declared.Ran.{Ran}
+use Rattle.machine.specs.declared.Ran.the-variants.{Done, BadImage as RanBadImage, BadList, BadArrivals}
 use Rattle.index.specs.declared.find.Found.{Found}
 use Rattle.index.specs.declared.find.Found.the-variants.{
   Value,
@@ -101,6 +103,18 @@ made-same =
     same (λ r. madeAs (r .0) (r .1))
     ((λ o. (madeFrom o, o .list)), λ r. λ i. (made-again (r .0) (r .1) i, made-list (r .0) (r .1) i))
 
+abbrev ranFrom : ℕ → Ran
+ranFrom n = cond (eqb n 0) Done (cond (eqb n 1) RanBadImage (cond (eqb n 7) BadList BadArrivals))
+
+ran-again : (r : Ran) → ranFrom (ranAs r) ≡ r
+ran-again Done = refl
+ran-again RanBadImage = refl
+ran-again BadList = refl
+ran-again BadArrivals = refl
+
+ran-same : (r s : Ran × List ℕ) → ranAs (r .0) ≡ ranAs (s .0) → r .1 ≡ s .1 → r ≡ s
+ran-same r s e image = λ i. (same ranAs (ranFrom, ran-again) (r .0) (s .0) e i, image i)
+
 -- ---- THE STATEMENT
 
 pub one-result : (asked : Asked) (r s : Result asked) → Allowed asked r → Allowed asked s → r ≡ s
@@ -115,8 +129,8 @@ one-result (recovery image smallest numbers) r s p q =
 one-result (put image list key value) r s p q = made-same r s (p ∙ sym q)
 one-result (set image list key value) r s p q = made-same r s (p ∙ sym q)
 one-result (del image list key) r s p q = made-same r s (p ∙ sym q)
-one-result (run image list n) r s p q = λ i. (answer-of (r .0) (s .0) (p .0 ∙ sym (q .0)) i, (p .1 ∙ sym (q .1)) i)
-one-result (cut image list n arrivals) r s p q = λ i. (answer-of (r .0) (s .0) (p .0 ∙ sym (q .0)) i, (p .1 ∙ sym (q .1)) i)
+one-result (run image list n) r s p q = ran-same r s (p .0 ∙ sym (q .0)) (p .1 ∙ sym (q .1))
+one-result (cut image list n arrivals) r s p q = ran-same r s (p .0 ∙ sym (q .0)) (p .1 ∙ sym (q .1))
 
 -- Reading a line of the bench program: a contract of the form `r ≡ ..` allows one result as it stands.
 pub one-command : (line : List ℕ) (r s : Command) → r ≡ parseOf line → s ≡ parseOf line → r ≡ s

@@ -1,7 +1,7 @@
 -- "Two sound images alike in length, chain, occupied slots and entries give equal find, listing, recovery answers and
 -- refusals."
 use mathlib.Core.Path.{_≡_, refl, sym, ap, _∙_}
-use mathlib.Core.Bool.{true, false}
+use mathlib.Core.Bool.{false}
 use mathlib.Core.List.{List, [], _∷_, map}
 use Prim.Native.Nat.{ℕ, _/_, min}
 use lib.ListN.{length, take}
@@ -84,26 +84,25 @@ module _ (l m : List ℕ) (a : Alike l m) (fine : badImage (length l) ≡ false)
 
   recovery-same : (ks vs : List ℕ) → recoveryOf m ks vs ≡ recoveryOf l ks vs
   recovery-same ks vs =
-      by-test (λ b. isShort (blocks l) (length ks) (length vs) ≡ b → recoveryOf m ks vs ≡ recoveryOf l ks vs) _
-      (λ x e. sym (recovery-short m ks vs fine-too (same-short ks vs ∙ e)) ∙ recovery-short l ks vs fine e)
-      (λ x e. recovery-accepted m fine-too (second-sound a) ks vs (same-short ks vs ∙ e)
+      by-test (λ b. recoveryOf m ks vs ≡ recoveryOf l ks vs) (isShort (blocks l) (length ks) (length vs))
+      (λ e. sym (recovery-short m ks vs fine-too (same-short ks vs ∙ e)) ∙ recovery-short l ks vs fine e)
+      (λ e. recovery-accepted m fine-too (second-sound a) ks vs (same-short ks vs ∙ e)
       ∙ (λ i. recoveryIs (sizes 0 (length (same-chain a fine i)) (length (same-entries i))) (over (same-smallest i) ks)
       (over (same-chain a fine i) vs))
       ∙ sym (recovery-accepted l fine (first-sound a) ks vs e))
-      refl
 
 module _ (l m : List ℕ) (a : Alike l m) where
   pub alike-find : (k : ℕ) → findOf m k ≡ findOf l k
   alike-find k =
-      by-test (λ b. badImage (length l) ≡ b → findOf m k ≡ findOf l k) (badImage (length l))
-      (λ x e. sym (find-bad m k (same-bad a ∙ e)) ∙ find-bad l k e) (λ x e. find-same l m a e k) refl
+      by-test (λ b. findOf m k ≡ findOf l k) (badImage (length l))
+      (λ e. sym (find-bad m k (same-bad a ∙ e)) ∙ find-bad l k e) (λ e. find-same l m a e k)
 
   pub alike-listing : (from : ℕ) (ks vs : List ℕ) → listingOf m from ks vs ≡ listingOf l from ks vs
   alike-listing from ks vs =
-      by-test (λ b. badImage (length l) ≡ b → listingOf m from ks vs ≡ listingOf l from ks vs) (badImage (length l))
-      (λ x e. sym (listing-bad m from ks vs (same-bad a ∙ e)) ∙ listing-bad l from ks vs e) (λ x e. listing-same l m a e from ks vs) refl
+      by-test (λ b. listingOf m from ks vs ≡ listingOf l from ks vs) (badImage (length l))
+      (λ e. sym (listing-bad m from ks vs (same-bad a ∙ e)) ∙ listing-bad l from ks vs e) (λ e. listing-same l m a e from ks vs)
 
   pub alike-recovery : (ks vs : List ℕ) → recoveryOf m ks vs ≡ recoveryOf l ks vs
   alike-recovery ks vs =
-      by-test (λ b. badImage (length l) ≡ b → recoveryOf m ks vs ≡ recoveryOf l ks vs) (badImage (length l))
-      (λ x e. sym (recovery-bad m ks vs (same-bad a ∙ e)) ∙ recovery-bad l ks vs e) (λ x e. recovery-same l m a e ks vs) refl
+      by-test (λ b. recoveryOf m ks vs ≡ recoveryOf l ks vs) (badImage (length l))
+      (λ e. sym (recovery-bad m ks vs (same-bad a ∙ e)) ∙ recovery-bad l ks vs e) (λ e. recovery-same l m a e ks vs)

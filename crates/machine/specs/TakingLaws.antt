@@ -1,5 +1,5 @@
--- What follows from the contracts of run and cut, for the crates above: that they allow one result, which calls are
--- accepted, what those leave in words, and that a list that was written step by step passes.
+-- What follows from the contracts of run and cut, for the crates above: which calls are accepted, what those leave in
+-- words, and that a list that was written step by step passes.
 use Prim.Native.Nat.{ℕ, _*_, _/_, _%_, _<_, _≤_}
 use native.Mathlib.Omega.{arith}
 use native.Mathlib.Decide.{decLt}
@@ -20,30 +20,8 @@ use Rattle.steps.specs.Encoding.{inImage, stepAt, written}
 use Rattle.steps.specs.EncodingLaws.{written-formed, written-length}
 use Rattle.steps.specs.Lists.{Each}
 use Rattle.steps.specs.Refusals.{row-passed, badImage}
-use Rattle.machine.specs.declared.Ran.{Ran}
-use Rattle.machine.specs.declared.Ran.the-variants.{Done, BadImage, BadList, BadArrivals}
-use Rattle.machine.specs.Taking.{ranAs, arrived, badList, outside, badArrivals, runOf, cutOf}
+use Rattle.machine.specs.Taking.{arrived, badList, outside, badArrivals, runOf, cutOf}
 use Rattle.machine.specs.Fits.{Passed, passed, passes, line-inside}
-
--- ---- the number tells the answer, so the contracts allow one result
-
-pub answer-of : (a b : Ran) → ranAs a ≡ ranAs b → a ≡ b
-answer-of Done Done e = refl
-answer-of Done BadImage e = absurd (omega arith)
-answer-of Done BadList e = absurd (omega arith)
-answer-of Done BadArrivals e = absurd (omega arith)
-answer-of BadImage Done e = absurd (omega arith)
-answer-of BadImage BadImage e = refl
-answer-of BadImage BadList e = absurd (omega arith)
-answer-of BadImage BadArrivals e = absurd (omega arith)
-answer-of BadList Done e = absurd (omega arith)
-answer-of BadList BadImage e = absurd (omega arith)
-answer-of BadList BadList e = refl
-answer-of BadList BadArrivals e = absurd (omega arith)
-answer-of BadArrivals Done e = absurd (omega arith)
-answer-of BadArrivals BadImage e = absurd (omega arith)
-answer-of BadArrivals BadList e = absurd (omega arith)
-answer-of BadArrivals BadArrivals e = refl
 
 -- ---- accepted
 

@@ -7,7 +7,7 @@ use mathlib.Core.Bool.{Bool, true, false, _||_, true≢false, false≢true}
 use mathlib.Core.Path.{_≡_, refl, sym, ap, _∙_}
 use lib.Dec.{ltb}
 use borrow.Author.Tests.{ltb-true, lt-ltb}
-use Rattle.words.specs.Bools.{by-test, same-test, or-right}
+use Rattle.words.specs.Bools.{by-test, not-so, same-test, or-right}
 use Rattle.steps.specs.Below.{anyBelow, one, countBelow}
 
 -- ---- going by cases
@@ -49,8 +49,7 @@ any-at f (suc n) e =
 
 -- at none of them
 pub any-none : (f : ℕ → Bool) (n i : ℕ) → anyBelow f n ≡ false → i < n → f i ≡ false
-any-none f n i e h =
-    by-test (λ t. f i ≡ t → t ≡ false) (f i) (λ t y. absurd (true≢false (sym (any-make f n i h y) ∙ e))) (λ t y. refl) refl
+any-none f n i e h = not-so (f i) (λ y. true≢false (sym (any-make f n i h y) ∙ e))
 
 pub none-make : (f : ℕ → Bool) (n : ℕ) → ((i : ℕ) → i < n → f i ≡ false) → anyBelow f n ≡ false
 none-make f zero h = refl
@@ -93,10 +92,9 @@ module _ (f : ℕ → Bool) where
       go : Dec (c < countBelow f n) → (c < countBelow f n → Nth n) → Nth (suc n)
       go (yes l) ih = let (i, k, e, o) = ih l in (i, omega arith, e, o)
       go (no l) ih =
-          by-test (λ b. f n ≡ b → c < countBelow f n + one b → Nth (suc n)) (f n)
-          (λ t e k. (n, omega arith, e, omega arith))
-          (λ t e k. absurd (omega arith))
-          refl
+          by-test (λ b. c < countBelow f n + one b → Nth (suc n)) (f n)
+          (λ e k. (n, omega arith, e, omega arith))
+          (λ e k. absurd (omega arith))
           h
 
 module _ (f g : ℕ → Bool) where
@@ -107,7 +105,6 @@ module _ (f g : ℕ → Bool) where
   pub count-sub : (n : ℕ) → ((i : ℕ) → f i ≡ true → g i ≡ true) → countBelow f n ≤ countBelow g n
   count-sub zero h = omega arith
   count-sub (suc n) h =
-      by-test (λ b. f n ≡ b → countBelow f n + one b ≤ countBelow g (suc n)) (f n)
-      (λ t e. rw (h n e) (omega (arith, count-sub n h)))
-      (λ t e. omega (arith, count-sub n h))
-      refl
+      by-test (λ b. countBelow f n + one b ≤ countBelow g (suc n)) (f n)
+      (λ e. rw (h n e) (omega (arith, count-sub n h)))
+      (λ e. omega (arith, count-sub n h))

@@ -32,10 +32,9 @@ reach s f l = cond (hadBack s f l) f 0
 
 pub in-reach : (s : Steps) (f l i : ℕ) → i < reach s f l → (hadBack s f l ≡ true) × (i < f)
 in-reach s f l i =
-    by-test (λ t. hadBack s f l ≡ t → i < cond t f 0 → (hadBack s f l ≡ true) × (i < f)) (hadBack s f l)
-    (λ t e h. (e, h))
-    (λ t e h. absurd (omega arith))
-    refl
+    by-test (λ t. i < cond t f 0 → (hadBack s f l ≡ true) × (i < f)) (hadBack s f l)
+    (λ e h. (e, h))
+    (λ e h. absurd (omega arith))
 
 -- ---- the last fence
 

@@ -185,11 +185,10 @@ module _ (unit : ℕ → ℕ) (rule : Rule) (s : Steps) (n : ℕ) where
 
         same : (h : ℕ) (x : Step) → s h ≡ x → h ≤ i → storesTo unit (unit p) x ≡ settlesIn unit rule s n (unit p) h x
         same h (store q w) d b =
-            by-test (λ t. eqb (unit q) (unit p) ≡ t → t ≡ both t (isSettled rule s n h (line q))) (eqb (unit q) (unit p))
-            (λ t y.
+            by-test (λ t. t ≡ both t (isSettled rule s n h (line q))) (eqb (unit q) (unit p))
+            (λ y.
             sym (settled-test rule s n h (line q) (settled-first h i p q v w b d e (eqb-true (unit q) (unit p) y) r)))
-            (λ t y. refl)
-            refl
+            (λ y. refl)
         same h (writeBack k) d b = refl
         same h fence d b = refl
 
