@@ -11,6 +11,7 @@ use borrow.Author.Tests.{lt-ltb, le-ltb, ne-eqb, ltb-false, eqb-false}
 use lib.Dec.{eqb, ltb}
 use lib.ListN.{length, length-append}
 use lib.Seq.{append-snoc}
+use Rattle.words.specs.Bools.{never}
 use Rattle.command.specs.Spelling.{digits, decimal}
 use Rattle.command.specs.Reading.{byte-zero, byte-nine, digitOf, closed, most, grown, grownBy}
 use Rattle.command.specs.Reading.{pushed, pushedAll, spelledBy}
@@ -107,8 +108,8 @@ digit-read b d = go (ltb b byte-zero) (ltb byte-nine b) refl refl
   where
     go : (s t : Bool) → ltb b byte-zero ≡ s → ltb byte-nine b ≡ t
         → cond s Not (cond t Not (Is (b - byte-zero))) ≡ Is d → (b ≡ 48 + d) × (d < 10)
-    go true t es et e = absurd (let z : _≡_ {A = ℕ} 0 1 = cc in omega arith)
-    go false true es et e = absurd (let z : _≡_ {A = ℕ} 0 1 = cc in omega arith)
+    go true t es et e = never cc
+    go false true es et e = never cc
     go false false es et e =
         let z : b - byte-zero ≡ d = cc in
         omega (arith, ltb-false b byte-zero es, ltb-false byte-nine b et)
@@ -118,8 +119,8 @@ grown-read n d m = go (eqb n closed) (ltb most (n * 10 + d)) refl refl
   where
     go : (s t : Bool) → eqb n closed ≡ s → ltb most (n * 10 + d) ≡ t
         → cond s Not (cond t Not (Is (n * 10 + d))) ≡ Is m → (n ≢ closed) × (m ≡ n * 10 + d) × (m < 2 ^ 64)
-    go true t es et e = absurd (let z : _≡_ {A = ℕ} 0 1 = cc in omega arith)
-    go false true es et e = absurd (let z : _≡_ {A = ℕ} 0 1 = cc in omega arith)
+    go true t es et e = never cc
+    go false true es et e = never cc
     go false false es et e =
         let z : n * 10 + d ≡ m = cc in
         (eqb-false n closed es, sym z, omega (arith, ltb-false most (n * 10 + d) et))
@@ -128,7 +129,7 @@ pushed-read : (n b m : ℕ) → pushed (Is n) b ≡ Is m → (decimal n ++ b ∷
 pushed-read n b m = go (digitOf b) refl
   where
     go : (r : Number) → digitOf b ≡ r → grownBy n r ≡ Is m → (decimal n ++ b ∷ [] ≡ decimal m) × (m < 2 ^ 64)
-    go Not er e = absurd (let z : _≡_ {A = ℕ} 0 1 = cc in omega arith)
+    go Not er e = never cc
     go (Is d) er e =
         let g = grown-read n d m e in
         let f = digit-read b d er in
@@ -138,7 +139,7 @@ pushed-read n b m = go (digitOf b) refl
 
 pushed-not : (l : List ℕ) (n : ℕ) → pushedAll Not l ≡ Is n → ⊥
 unfolding pushedAll
-pushed-not [] n e = let z : _≡_ {A = ℕ} 0 1 = cc in omega arith
+pushed-not [] n e = never cc
 pushed-not (b ∷ l) n e = pushed-not l n e
 
 pushed-all-read : (l : List ℕ) (m n : ℕ) → m < 2 ^ 64 → pushedAll (Is m) l ≡ Is n
@@ -157,7 +158,7 @@ pushed-all-read (b ∷ l) m n h e = go (pushed (Is m) b) refl e (λ k. pushed-al
         (sym (append-snoc (decimal m) b l) ∙ ap (λ (x : List ℕ). x ++ l) (p .0) ∙ q .0, q .1)
 
 pub number-read : (l : List ℕ) (n : ℕ) → spelledBy l ≡ Is n → (l ≡ decimal n) × (n < 2 ^ 64)
-number-read [] n e = absurd (let z : _≡_ {A = ℕ} 0 1 = cc in omega arith)
+number-read [] n e = never cc
 number-read (b ∷ l) n e = go (digitOf b) refl e
   where
     go : (r : Number) → digitOf b ≡ r → pushedAll r l ≡ Is n → (b ∷ l ≡ decimal n) × (n < 2 ^ 64)

@@ -11,7 +11,7 @@ use borrow.Author.Tests.{eqb-true, ne-eqb}
 use lib.Dec.{eqb}
 use lib.ListN.{length, getD, take, drop, length-append, length-drop, drop-of-length-le}
 use lib.Seq.{take-at, drop-at, drop-drop, split-at, append-snoc}
-use Rattle.words.specs.Bools.{both, by-test}
+use Rattle.words.specs.Bools.{both, by-test, differ, never}
 use Rattle.command.specs.Spelling.{decimal, put-word, set-word, del-word, get-word, list-word, spelling, InRange}
 use Rattle.command.specs.Reading.{until, begins, spelledBy, fieldOf, fieldAt, pairOf, pairFrom, pairAt}
 use Rattle.command.specs.Reading.{past-tab, tabbed, asPut, asSet, asDel, asGet, parseOf}
@@ -83,7 +83,7 @@ spelled-read line (Set k v) e h =
 spelled-read line (Del k) e h = at-line (del-word ++ 9 ∷ decimal k) line (Del k) e (ap asDel (number-decimal k h))
 spelled-read line (Get k) e h = at-line (get-word ++ 9 ∷ decimal k) line (Get k) e (ap asGet (number-decimal k h))
 spelled-read line Listing e h = at-line list-word line Listing e refl
-spelled-read line Malformed e h = absurd (let z : _≡_ {A = ℕ} 0 1 = cc in omega arith)
+spelled-read line Malformed e h = never cc
 
 -- ---- what is read is spelled so
 
@@ -129,13 +129,13 @@ pair-cases P l at both-read not =
 begins-read : (w l : List ℕ) → begins w l ≡ true → l ≡ w ++ drop (length w) l
 unfolding begins
 begins-read [] l e = refl
-begins-read (a ∷ w) [] e = absurd (let z : _≡_ {A = ℕ} 0 1 = cc in omega arith)
+begins-read (a ∷ w) [] e = differ (sym e)
 begins-read (a ∷ w) (b ∷ l) e = go (eqb b a) refl e (begins-read w l)
   where
     go : (t : Bool) → eqb b a ≡ t → both t (begins w l) ≡ true → (begins w l ≡ true → l ≡ w ++ drop (length w) l)
         → b ∷ l ≡ a ∷ (w ++ drop (length w) l)
     go true eb e ih = cc (eqb-true b a eb, ih e)
-    go false eb e ih = absurd (let z : _≡_ {A = ℕ} 0 1 = cc in omega arith)
+    go false eb e ih = differ (sym e)
 
 -- c is no command, or is the one that the line spells
 Spelled : List ℕ → Command → Type 0
@@ -181,12 +181,12 @@ malformed line = (
 )
   where
     nothing : none ≡ some line → ⊥
-    nothing e = let z : _≡_ {A = ℕ} 0 1 = cc in omega arith
+    nothing e = never cc
 
     other : ((c : Command) → spelling c ≡ some line → InRange c → ⊥) → (c : Command) → Spelled line c → c ≡ Malformed
     other f Malformed s = refl
-    other f (Put k v) s = let q = s (λ e. let z : _≡_ {A = ℕ} 0 1 = cc in omega arith) in absurd (f (Put k v) (q .0) (q .1))
-    other f (Set k v) s = let q = s (λ e. let z : _≡_ {A = ℕ} 0 1 = cc in omega arith) in absurd (f (Set k v) (q .0) (q .1))
-    other f (Del k) s = let q = s (λ e. let z : _≡_ {A = ℕ} 0 1 = cc in omega arith) in absurd (f (Del k) (q .0) (q .1))
-    other f (Get k) s = let q = s (λ e. let z : _≡_ {A = ℕ} 0 1 = cc in omega arith) in absurd (f (Get k) (q .0) (q .1))
-    other f Listing s = let q = s (λ e. let z : _≡_ {A = ℕ} 0 1 = cc in omega arith) in absurd (f Listing (q .0) (q .1))
+    other f (Put k v) s = let q = s (λ e. never cc) in absurd (f (Put k v) (q .0) (q .1))
+    other f (Set k v) s = let q = s (λ e. never cc) in absurd (f (Set k v) (q .0) (q .1))
+    other f (Del k) s = let q = s (λ e. never cc) in absurd (f (Del k) (q .0) (q .1))
+    other f (Get k) s = let q = s (λ e. never cc) in absurd (f (Get k) (q .0) (q .1))
+    other f Listing s = let q = s (λ e. never cc) in absurd (f Listing (q .0) (q .1))

@@ -10,6 +10,7 @@ use borrow.Author.Tests.{lt-ltb, le-ltb, ltb-true}
 use lib.Dec.{eqb, ltb}
 use lib.ListN.{length, take, drop, length-drop, drop-of-length-le}
 use lib.Seq.{drop-drop}
+use Rattle.words.specs.Bools.{never}
 use Rattle.command.specs.Spelling.{onto, before, linesIn}
 use Rattle.command.specs.Reading.{until, parseOf, past-line, lineAt}
 use Rattle.command.specs.ReadingLaws.{until-within}
@@ -74,4 +75,4 @@ line-later l at c next e = go (ltb at (length l)) refl e
     go true t e =
         let z : past-line (at + until 10 (drop at l)) ≡ next = cc in
         omega (arith, until-within 10 l at (omega (arith, ltb-true at (length l) t)))
-    go false t e = absurd (let z : _≡_ {A = ℕ} 0 1 = cc in omega arith)
+    go false t e = never cc

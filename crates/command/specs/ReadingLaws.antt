@@ -12,7 +12,7 @@ use borrow.Author.Tests.{eq-eqb, ne-eqb}
 use lib.Dec.{eqb}
 use lib.ListN.{length, getD, take, drop, length-drop, drop-of-length-le}
 use lib.Seq.{drop-cons}
-use Rattle.words.specs.Bools.{both-none}
+use Rattle.words.specs.Bools.{both-none, never}
 use Rattle.command.specs.Reading.{until, begins, pushed, pushedAll, digitOf, spelledBy, fieldOf, fieldAt}
 use Rattle.command.specs.declared.number.Number.{Number}
 use Rattle.command.specs.declared.number.Number.the-variants.{Is, Not}
@@ -101,14 +101,11 @@ field-to l at end e =
 pub field-within : (l : List ℕ) (at k end : ℕ) → fieldAt l at ≡ number k end → end ≤ length l
 field-within l at k end e =
     elim (decLt (length l) at) [
-      | yes h ↦ absurd (clash (sym (field-none l at (omega arith)) ∙ e))
+      | yes h ↦ let f : no-field ≡ number k end = sym (field-none l at (omega arith)) ∙ e in never cc
       | no h ↦ ends (spelledBy (take (until 9 (drop at l)) (drop at l))) e (until-within 9 l at (omega arith))
     ]
   where
-    clash : no-field ≡ number k end → ⊥
-    clash e = let z : _≡_ {A = ℕ} 0 1 = cc in omega arith
-
     ends : (n : Number) → fieldOf n (at + until 9 (drop at l)) ≡ number k end → at + until 9 (drop at l) ≤ length l
         → end ≤ length l
     ends (Is n) e h = let z : at + until 9 (drop at l) ≡ end = cc in omega arith
-    ends Not e h = absurd (clash e)
+    ends Not e h = never cc

@@ -9,7 +9,7 @@ use native.Mathlib.Decide.{decLt}
 use native.Mathlib.Omega.{arith}
 use borrow.Author.Tests.{ltb-true, leb-true, eqb-true, eqb-false, lt-ltb, le-leb, eq-eqb, ne-eqb, not-true}
 use lib.Dec.{ltb, eqb}
-use Rattle.words.specs.Bools.{by-test}
+use Rattle.words.specs.Bools.{by-test, never}
 use Rattle.image.specs.Map.{Map, SameMap, Altered, Entry, entry, Member, Sorted, Lists}
 use Rattle.image.specs.Map.{only, putIn, without, lookup, startingAt}
 use Rattle.image.specs.MapLaws.{map-sym, map-trans}
@@ -204,7 +204,7 @@ module _ {H : Map} {l : List Entry} (L : Lists H l) (k : ℕ) where
 module _ (k : ℕ) where
   found-member : (l : List Entry) (v : ℕ) → lookup k l ≡ some v → Member l k v
   unfolding lookup
-  found-member [] v q = absurd (let z : _≡_ {A = ℕ} 0 1 = cc in omega arith)
+  found-member [] v q = never cc
   found-member (e ∷ l) v q =
       by-test (λ b. eqb (e .key) k ≡ b → cond b (some (e .val)) (lookup k l) ≡ some v → Member (e ∷ l) k v) (eqb (e .key) k)
       (λ x t h. inl (sym (eqb-true (e .key) k t), cc))

@@ -8,7 +8,7 @@ use native.Mathlib.Decide.{ℕ-discrete, decLt}
 use native.Mathlib.Omega.{arith}
 use borrow.Author.Tests.{eq-eqb, eqb-true, leb-true, le-leb, ltb-true, ltb-false, not-true, not-false}
 use lib.Dec.{leb, eqb}
-use Rattle.words.specs.Bools.{both, both-true, by-test, differ, not-so}
+use Rattle.words.specs.Bools.{both, both-true, by-test, differ, never, not-so}
 use Rattle.header.specs.Header.{fingerprintOf}
 use Rattle.leaf.specs.Leaf.{Leaf, Taken, Right}
 use Rattle.leaf.specs.Search.{pickSlot, lowest, holdsKey, slotOf, lowestVacant, nearer, closer, closest, leastFrom, countTo}
@@ -30,7 +30,7 @@ module _ (f : ℕ → Bool) where
 
   pub lowest-at : (n i s : ℕ) → lowest f n i ≡ At s → Lowest f n i s
   unfolding lowest
-  lowest-at zero i s e = absurd (let z : _≡_ {A = ℕ} 0 1 = cc in omega arith)
+  lowest-at zero i s e = never cc
   lowest-at (suc n) i s e = by (lowest-at n (suc i) s) (f i) refl e
     where
       by : (lowest f n (suc i) ≡ At s → Lowest f n (suc i) s) → (b : Bool) → f i ≡ b → pickSlot b i (lowest f n (suc i)) ≡ At s
@@ -49,7 +49,7 @@ module _ (f : ℕ → Bool) where
     where
       by : (lowest f n (suc i) ≡ Missing → (t : ℕ) → suc i ≤ t → t < suc i + n → f t ≡ false) → (b : Bool) → f i ≡ b
           → pickSlot b i (lowest f n (suc i)) ≡ Missing → f t ≡ false
-      by ih true p q = absurd (let z : _≡_ {A = ℕ} 0 1 = cc in omega arith)
+      by ih true p q = never cc
       by ih false p q = first-more i (i + suc n) p (λ u c d. ih q u c (omega arith)) t a b
 
   pub lowest-is : (n i s : ℕ) → Lowest f n i s → lowest f n i ≡ At s
@@ -123,7 +123,7 @@ module _ (L : Leaf) (r : Right L) where
 
   pub slot-missing : (k : ℕ) → slotOf L k ≡ Missing → (s : ℕ) → Taken L s → L .key s ≢ k
   slot-missing k e s o p =
-      let x : At s ≡ Missing = sym (slot-of s o) ∙ rw p e in let z : _≡_ {A = ℕ} 0 1 = cc in omega arith
+      let x : At s ≡ Missing = sym (slot-of s o) ∙ rw p e in never cc
 
 -- ---- the least key from k on
 

@@ -15,8 +15,12 @@ pub by-test : (P : Bool → Type 0) (b : Bool) → (b ≡ true → P true) → (
 by-test P true f g = f refl
 by-test P false f g = g refl
 
+-- where a hypothesis says two constructors equal, `cc` has 0 ≡ 1
+pub never : {A : Type 0} → _≡_ {A = ℕ} 0 1 → A
+never e = absurd (omega arith)
+
 pub differ : {A : Type 0} → _≡_ {A = Bool} true false → A
-differ e = absurd (let z : _≡_ {A = ℕ} 0 1 = cc in omega arith)
+differ e = never cc
 
 pub not-so : (b : Bool) → (b ≡ true → ⊥) → b ≡ false
 not-so true f = absurd (f refl)
