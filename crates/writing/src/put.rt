@@ -9,6 +9,7 @@ use leaf::search::Slot;
 use leaf::search::lowest_vacant;
 use machine::bad_image;
 use split::full::write_full_put;
+use steps::LIST_ROOM;
 use steps::LineWrites;
 use steps::WordWrites;
 use survey::marks::Marks;
@@ -173,7 +174,7 @@ pub fn put(image: &[u8], list: &mut [u64], key: u64, value: u64) -> Made
     if bad_image(image.len() as u64) {
         return Made::BadImage;
     }
-    if list.len() < 112 {
+    if list.len() < LIST_ROOM {
         return Made::ShortList;
     }
     let w = survey(image, key);
