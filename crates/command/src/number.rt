@@ -1,4 +1,5 @@
 // A field read as a number: decimal, with no sign and no leading zero but 0 itself, at most 2^64 - 1.
+use words::LARGEST;
 use words::wide;
 ghost use mathlib.Core.Path.{_≡_};
 ghost use Rattle.command.specs.Reading.{digitOf, grown, pushed, spelledBy};
@@ -21,8 +22,6 @@ fn digit(byte: u8) -> Number
     Number::Is(wide(byte) - 48)
 }
 
-const MOST: u64 = 18446744073709551615;
-
 // `n` with a digit behind it. A 0 takes none: no leading zero. The last number whose tenfold fits is 1844674407370955161.
 fn grow(n: u64, digit: u64) -> Number
     ensures { λ r. ⌜ r ≡ grown n digit ⌝ }
@@ -34,7 +33,7 @@ fn grow(n: u64, digit: u64) -> Number
         return Number::Not;
     }
     let tens = n * 10;
-    if MOST - tens < digit {
+    if LARGEST - tens < digit {
         return Number::Not;
     }
     Number::Is(tens + digit)

@@ -24,13 +24,13 @@ use Rattle.image.specs.Order.{slotsFrom, slotsOf, KeysRise, Upper, slots
 abbrev pub entryIn : Leaf → ℕ → Entry
 entryIn L s = entry (L .key s) (L .val s)
 
-unfoldable pub entriesIn : Leaf → List ℕ → List Entry
-entriesIn L [] = []
-entriesIn L (s ∷ ss) = entryIn L s ∷ entriesIn L ss
+unfoldable pub entriesAt : Leaf → List ℕ → List Entry
+entriesAt L [] = []
+entriesAt L (s ∷ ss) = entryIn L s ∷ entriesAt L ss
 
 -- the entries of a leaf, and of the leaves of a chain
 unfoldable pub entriesOf : Leaf → List Entry
-entriesOf L = entriesIn L (slotsOf L)
+entriesOf L = entriesAt L (slotsOf L)
 
 unfoldable pub listOf : (ℕ → Leaf) → List ℕ → List Entry
 listOf I [] = []
@@ -39,8 +39,8 @@ listOf I (b ∷ bs) = entriesOf (I b) ++ listOf I bs
 -- ---- of a leaf
 
 module _ (L : Leaf) where
-  entries-sorted : (lo : ℕ) (ss : List ℕ) → KeysRise L lo ss → Sorted lo (entriesIn L ss)
-  unfolding entriesIn
+  entries-sorted : (lo : ℕ) (ss : List ℕ) → KeysRise L lo ss → Sorted lo (entriesAt L ss)
+  unfolding entriesAt
   entries-sorted lo [] r = tt
   entries-sorted lo (s ∷ ss) r = (r .0, entries-sorted (suc (L .key s)) ss (r .1))
 
@@ -48,13 +48,13 @@ module _ (L : Leaf) where
   keys-lower lo [] r = tt
   keys-lower lo (s ∷ ss) r = (omega arith, r .1)
 
-  entries-in : (ss : List ℕ) → All (λ s. Taken L s) ss → (k v : ℕ) → Member (entriesIn L ss) k v → In L k v
-  unfolding entriesIn
+  entries-in : (ss : List ℕ) → All (λ s. Taken L s) ss → (k v : ℕ) → Member (entriesAt L ss) k v → In L k v
+  unfolding entriesAt
   entries-in (s ∷ ss) a k v (inl e) = rw (e .0, e .1) (own L s (a .0))
   entries-in (s ∷ ss) a k v (inr m) = entries-in ss (a .1) k v m
 
-  in-entries : (ss : List ℕ) (k v : ℕ) (i : In L k v) → (All (λ s. s ≢ i .at) ss → ⊥) → Member (entriesIn L ss) k v
-  unfolding entriesIn
+  in-entries : (ss : List ℕ) (k v : ℕ) (i : In L k v) → (All (λ s. s ≢ i .at) ss → ⊥) → Member (entriesAt L ss) k v
+  unfolding entriesAt
   in-entries [] k v i f = absurd (f tt)
   in-entries (s ∷ ss) k v i f =
       elim (ℕ-discrete s (i .at)) [
@@ -62,13 +62,13 @@ module _ (L : Leaf) where
         | no ne ↦ inr (in-entries ss k v i (λ g. f (ne, g)))
       ]
 
-  keys-above : (lo : ℕ) (ss : List ℕ) → KeysRise L lo ss → (k v : ℕ) → Member (entriesIn L ss) k v → lo ≤ k
-  unfolding entriesIn
+  keys-above : (lo : ℕ) (ss : List ℕ) → KeysRise L lo ss → (k v : ℕ) → Member (entriesAt L ss) k v → lo ≤ k
+  unfolding entriesAt
   keys-above lo (s ∷ ss) r k v (inl e) = omega (arith, r .0, e .0)
   keys-above lo (s ∷ ss) r k v (inr m) = omega (arith, r .0, keys-above (suc (L .key s)) ss (r .1) k v m)
 
   -- the slots with keys from lo on give the entries with keys from lo on
-  upper-map : (lo : ℕ) (ss : List ℕ) → Upper L lo ss → SameMap (Member (entriesIn L ss)) (λ k v. In L k v × (lo ≤ k))
+  upper-map : (lo : ℕ) (ss : List ℕ) → Upper L lo ss → SameMap (Member (entriesAt L ss)) (λ k v. In L k v × (lo ≤ k))
   upper-map lo ss u = record {
     to = λ k v m. (entries-in ss (u .taken) k v m, keys-above lo ss (u .rising) k v m);
     back = λ k v h.
@@ -76,8 +76,8 @@ module _ (L : Leaf) where
         in-entries ss k v i (u .all (i .at) (i .taken) (omega (arith, h .1, i .key-is)));
   }
 
-  pub entries-length : (ss : List ℕ) → length (entriesIn L ss) ≡ length ss
-  unfolding entriesIn
+  pub entries-length : (ss : List ℕ) → length (entriesAt L ss) ≡ length ss
+  unfolding entriesAt
   entries-length [] = refl
   entries-length (s ∷ ss) = ap suc (entries-length ss)
 
@@ -86,7 +86,7 @@ module _ (L : Leaf) (r : Right L) where
   unfolding entriesOf
   leaf-lists =
       let u : Upper L 0 (slotsOf L) = slots-upper L r in
-      let m : SameMap (Member (entriesIn L (slotsOf L))) (λ k v. In L k v × (0 ≤ k)) = upper-map L 0 (slotsOf L) u in
+      let m : SameMap (Member (entriesAt L (slotsOf L))) (λ k v. In L k v × (0 ≤ k)) = upper-map L 0 (slotsOf L) u in
       record {
         sorted = entries-sorted L 0 (slotsOf L) (u .rising);
         members = record { to = λ k v h. (m .to k v h) .0; back = λ k v i. m .back k v (i, omega arith) };
@@ -148,13 +148,13 @@ module _ (I : ℕ → Leaf) (N : ℕ) where
 
   -- "entries with that key or above": those of the target leaf, and all of the leaves behind it
   pub list-from : (xs : List ℕ) (b : ℕ) (ys : List ℕ) → Sound I N (xs ++ (b ∷ ys)) → (k : ℕ) → Target I b ys k
-      → startingAt k (listOf I (xs ++ (b ∷ ys))) ≡ entriesIn (I b) (slotsFrom (I b) (I b .size) k) ++ listOf I ys
+      → startingAt k (listOf I (xs ++ (b ∷ ys))) ≡ entriesAt (I b) (slotsFrom (I b) (I b .size) k) ++ listOf I ys
   list-from xs b ys S k t =
       lists-unique (λ j u. Has I bs j u × (k ≤ j)) (λ j u. (In (I b) j u × (k ≤ j)) ⊎ Has I ys j u) (startingAt k (listOf I bs))
-      (entriesIn (I b) ss ++ listOf I ys)
+      (entriesAt (I b) ss ++ listOf I ys)
       same
       (starting-lists (chain-lists bs S) k)
-      (lists-join (λ j u. In (I b) j u × (k ≤ j)) (Has I ys) (entriesIn (I b) ss) (listOf I ys) here
+      (lists-join (λ j u. In (I b) j u × (k ≤ j)) (Has I ys) (entriesAt (I b) ss) (listOf I ys) here
       (goods-list ys (parts .1 .1) (rise .1 .1))
       (λ i v j u h g. rise .1 .0 i v j u (h .0) g))
     where
@@ -170,7 +170,7 @@ module _ (I : ℕ → Leaf) (N : ℕ) where
       ss : List ℕ
       ss = slotsFrom (I b) (I b .size) k
 
-      here : Lists (λ j u. In (I b) j u × (k ≤ j)) (entriesIn (I b) (slotsFrom (I b) (I b .size) k))
+      here : Lists (λ j u. In (I b) j u × (k ≤ j)) (entriesAt (I b) (slotsFrom (I b) (I b .size) k))
       here =
           let u : Upper (I b) k ss = slots-from (I b) (parts .1 .0 .right) k in
           record { sorted = entries-sorted (I b) 0 ss (keys-lower (I b) k ss (u .rising)); members = upper-map (I b) k ss u }

@@ -17,7 +17,7 @@ use Rattle.image.specs.Answers.{valueAt, find-lookup}
 use Rattle.image.specs.Image.{blocks, leaves}
 use Rattle.survey.specs.Walk.{surveyed}
 use Rattle.index.specs.Reading.{isSound, entriesIn, Told, told, foundAs, isNone, valueOr0, findOf}
-use Rattle.index.specs.SoundTest.{says-yes, says-no, noted-target}
+use Rattle.index.specs.SoundTest.{says-yes, says-no, noted-around}
 use Rattle.index.specs.declared.find.Found.{Found}
 use Rattle.index.specs.declared.find.Found.the-variants.{Value, BadImage, Unsound, Absent}
 
@@ -36,7 +36,7 @@ pub noted-lookup : (l : List ℕ) (k : ℕ) → badImage (length l) ≡ false �
     → let b = surveyed (leaves l) (blocks l) k .target in valueAt (leaves l b) (slotOf (leaves l b) k) ≡ lookup k (entriesIn l)
 unfolding entriesIn
 noted-lookup l k fine e =
-    let t = noted-target l k fine e in
+    let t = noted-around l k fine e in
     find-lookup (leaves l) (blocks l) (t .front) (surveyed (leaves l) (blocks l) k .target) (t .behind) (t .sound) k (t .target-is)
     ∙ ap (λ (bs : List ℕ). lookup k (listOf (leaves l) bs)) (sym (t .whole))
 

@@ -17,12 +17,12 @@ use Rattle.image.specs.Chain.{All}
 use Rattle.image.specs.Image.{blocks, leaves}
 use Rattle.image.specs.ChainLaws.{Good, sound-good, all-zip, all-split}
 use Rattle.image.specs.Order.{slotsFrom, slotsOf}
-use Rattle.image.specs.Entries.{entryIn, entriesIn, entriesOf, listOf, list-from}
+use Rattle.image.specs.Entries.{entryIn, entriesAt, entriesOf, listOf, list-from}
 use Rattle.survey.specs.Walk.{surveyed}
-use Rattle.index.specs.Reading.{chainFrom, entriesIn as inMap, over}
+use Rattle.index.specs.Reading.{chainFrom, entriesIn, over}
 use Rattle.index.specs.Reading.{counted, listedAs, Listing, listingIs, listed, listingOf}
 use Rattle.steps.specs.Refusals.{row-given, row-left}
-use Rattle.index.specs.SoundTest.{says-yes, says-no, noted-target}
+use Rattle.index.specs.SoundTest.{says-yes, says-no, noted-around}
 use Rattle.index.specs.Filling.{Buffers, buffers, fill, fill-full, fill-one, fill-append, fill-whole}
 use Rattle.index.specs.Along.{chain-on, chain-last, chain-over}
 use Rattle.index.specs.declared.listing.Listed.the-variants.{Count, BadImage, Unsound}
@@ -31,23 +31,23 @@ use Rattle.index.specs.declared.listing.Listed.the-variants.{Count, BadI
 
 -- its entries with keys from lo on, rising
 unfoldable pub entriesFrom : Leaf → ℕ → List Entry
-entriesFrom L lo = entriesIn L (slotsFrom L (L .size) lo)
+entriesFrom L lo = entriesAt L (slotsFrom L (L .size) lo)
 
 module _ (L : Leaf) (room i n : ℕ) (ss ks vs : List ℕ) (whole : Buffers)
-    (so-far : fill room (entriesIn L (drop i ss)) (buffers n ks vs) ≡ whole) where
+    (so-far : fill room (entriesAt L (drop i ss)) (buffers n ks vs) ≡ whole) where
   pub slots-end : length ss ≤ i → buffers n ks vs ≡ whole
-  unfolding entriesIn fill
+  unfolding entriesAt fill
   slots-end h = rw (drop-of-length-le ss h) at so-far
 
   pub slots-full : room ≤ n → buffers n ks vs ≡ whole
-  slots-full h = sym (fill-full room (entriesIn L (drop i ss)) (buffers n ks vs) h) ∙ so-far
+  slots-full h = sym (fill-full room (entriesAt L (drop i ss)) (buffers n ks vs) h) ∙ so-far
 
   pub slots-next : (s k v : ℕ) → i < length ss → n < room → s ≡ getD ss i 0 → k ≡ L .key s → v ≡ L .val s
-      → fill room (entriesIn L (drop (i + 1) ss)) (buffers (n + 1) (set ks n k) (set vs n v)) ≡ whole
-  unfolding entriesIn
+      → fill room (entriesAt L (drop (i + 1) ss)) (buffers (n + 1) (set ks n k) (set vs n v)) ≡ whole
+  unfolding entriesAt
   slots-next s k v turn has-room at key value =
       rw (key, value, at, add-one i)
-      (sym (fill-one room (entryIn L (getD ss i 0)) (entriesIn L (drop (suc i) ss)) (buffers n ks vs) has-room)
+      (sym (fill-one room (entryIn L (getD ss i 0)) (entriesAt L (drop (suc i) ss)) (buffers n ks vs) has-room)
       ∙ (rw (drop-cons ss i 0 turn) at so-far))
 
 -- the first so many slots of an order
@@ -55,9 +55,9 @@ pub first-length : (order : List ℕ) (n : ℕ) → n ≤ length order → lengt
 first-length order n h = omega (arith, length-take n order)
 
 pub order-lists : (l : List ℕ) (lo : ℕ) (ss : List ℕ) → ss ≡ slotsFrom (leafIn l) 14 lo
-    → entriesIn (leafIn l) ss ≡ entriesFrom (leafIn l) lo
+    → entriesAt (leafIn l) ss ≡ entriesFrom (leafIn l) lo
 unfolding entriesFrom leafIn
-order-lists l lo ss e = ap (entriesIn (leafIn l)) e
+order-lists l lo ss e = ap (entriesAt (leafIn l)) e
 
 -- ---- the leaves of a chain
 
@@ -109,7 +109,7 @@ module _ (l : List ℕ) (from : ℕ) (fine : badImage (length l) ≡ false)
   pub target-near : All (λ c. (c < blocks l) × Right (leaves l c))
       (chainFrom (leaves l) (blocks l) (surveyed (leaves l) (blocks l) from .target))
   target-near =
-      let t = noted-target l from fine sound in
+      let t = noted-around l from fine sound in
       let bs = surveyed (leaves l) (blocks l) from .target ∷ t .behind in
       let good = (all-split (Good (leaves l) (blocks l)) (t .front) bs (sound-good (leaves l) (blocks l) (t .sound))) .1 in
       subst (All (λ c. (c < blocks l) × Right (leaves l c))) (sym (t .ahead))
@@ -118,10 +118,10 @@ module _ (l : List ℕ) (from : ℕ) (fine : badImage (length l) ≡ false)
 
   -- what the leaves from the target on hold from the key on are the map's entries from it on
   target-lists : listFrom (leaves l) from (chainFrom (leaves l) (blocks l) (surveyed (leaves l) (blocks l) from .target))
-      ≡ startingAt from (inMap l)
-  unfolding listFrom entriesFrom inMap
+      ≡ startingAt from (entriesIn l)
+  unfolding listFrom entriesFrom entriesIn
   target-lists =
-      let t = noted-target l from fine sound in
+      let t = noted-around l from fine sound in
       ap (listFrom (leaves l) from) (t .ahead)
       ∙ sym (list-from (leaves l) (blocks l) (t .front) (surveyed (leaves l) (blocks l) from .target) (t .behind) (t .sound) from
       (t .target-is))
@@ -153,8 +153,8 @@ module _ (l : List ℕ) (from : ℕ) (ks vs : List ℕ) where
       let whole = is
       ∙ ap (λ (x : ℕ). fill room (listFrom (leaves l) from (chainFrom (leaves l) (blocks l) x)) (buffers 0 ks vs)) t
       ∙ ap (λ (es : List Entry). fill room es (buffers 0 ks vs)) (target-lists l from fine e)
-      ∙ fill-whole room (startingAt from (inMap l)) ks vs (omega arith) (omega arith)
-      ∙ ap (λ (m : ℕ). filled (take m (startingAt from (inMap l)))) r in
+      ∙ fill-whole room (startingAt from (entriesIn l)) ks vs (omega arith) (omega arith)
+      ∙ ap (λ (m : ℕ). filled (take m (startingAt from (entriesIn l)))) r in
       ap (λ (x : Buffers). listingIs (counted 0 (x .used)) (x .keys) (x .values)) whole
       ∙ sym (ap (listingOn (listed l from ks vs) ks vs) (row-left 1 _ fine ∙ row-left 3 0 (ap not (says-yes l from fine e))))
     where

@@ -133,9 +133,9 @@ pub record Around (l : List ℕ) (key b : ℕ) : Type 0 where
   pub ahead : chainFrom (leaves l) (blocks l) b ≡ b ∷ behind
   pub near : All (λ c. c < blocks l) (b ∷ behind)
 
-pub noted-target : (l : List ℕ) (key : ℕ) → badImage (length l) ≡ false → surveyed (leaves l) (blocks l) key .stage ≡ 1
+pub noted-around : (l : List ℕ) (key : ℕ) → badImage (length l) ≡ false → surveyed (leaves l) (blocks l) key .stage ≡ 1
     → Around l key (surveyed (leaves l) (blocks l) key .target)
-noted-target l key fine e =
+noted-around l key fine e =
     let s = survey-sound l key fine e in
     let st = surveyed (leaves l) (blocks l) key in
     let a = aim-target (leaves l) (blocks l) key (s .chain) (st .target) (st .before) (s .sound) (s .notes .aim) in

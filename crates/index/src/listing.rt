@@ -11,7 +11,7 @@ ghost use Prim.Native.Nat.{ℕ, _+_, _*_, _/_, _≤_, _<_, min};
 ghost use lib.ListN.{length, take, getD};
 ghost use Rattle.leaf.specs.Leaf.{leafIn, Right};
 ghost use Rattle.image.specs.Chain.{All};
-ghost use Rattle.image.specs.Entries.{entriesIn};
+ghost use Rattle.image.specs.Entries.{entriesAt};
 ghost use Rattle.image.specs.Image.{blocks, leaves};
 ghost use Rattle.index.specs.Reading.{chainFrom, listedAs, listingIs, listingOf};
 ghost use Rattle.index.specs.Filling.{buffers, fill};
@@ -36,7 +36,7 @@ fn list_slots(
     requires { ⌜ (256 ≤ length (now leaf)) × (room ≤ length (now keys)) × (room ≤ length (now values)) × (length (now order) ≡ 14)
         × (count ≤ 14) × ((i : ℕ) → getD (take count (now order)) i 0 < 14) ⌝ }
     ensures { λ r. ⌜ buffers r (now (keys .exit)) (now (values .exit))
-        ≡ fill room (entriesIn (leafIn (now (leaf .entry))) (take count (now (order .entry))))
+        ≡ fill room (entriesAt (leafIn (now (leaf .entry))) (take count (now (order .entry))))
         (buffers used (now (keys .entry)) (now (values .entry))) ⌝ }
 {
     let mut n = used;

@@ -4,6 +4,7 @@ use crate::place::Leaf;
 use crate::search::key_at;
 use header::Header;
 use header::fingerprint_at;
+use words::LARGEST;
 ghost use mathlib.Core.Path.{_≡_};
 ghost use mathlib.Core.Bool.{false, cond};
 ghost use Prim.Native.Nat.{_+_, _%_, _≤_, _<_, min, max};
@@ -120,7 +121,7 @@ pub fn tally_of(leaf: &[u8], head: Header, stamps: &mut [u8], number: u8) -> Tal
     let mut t = Tally {
         entries: 0,
         wrong: 0,
-        least: 18446744073709551615,
+        least: LARGEST,
         most: 0,
         hits: 0,
     };

@@ -17,7 +17,7 @@ use Rattle.steps.specs.Lists.{runAll}
 use Rattle.image.specs.Map.{Entry}
 use Rattle.image.specs.Copies.{copies}
 use Rattle.image.specs.Order.{slotsFrom, slotsOf}
-use Rattle.image.specs.Entries.{entriesIn, entriesOf, listOf}
+use Rattle.image.specs.Entries.{entriesAt, entriesOf, listOf}
 use Rattle.lists.specs.Lists.{unlinkList, clearList, isAlone, delList, nearPut, copiesBeside, filledHead, farPut, putAt, plainPut}
 use Rattle.lists.specs.FullLists.{movedSlots, goesUp, splitList, fullPut, putList}
 
@@ -79,7 +79,7 @@ pub survived : Survived
 unfolding putList putAt nearPut farPut copiesBeside filledHead movedSlots goesUp splitList plainPut fullPut delList
     unlinkList clearList isAlone field patched isOccupied isLocked altIn fingerprintIn marked cleared flipped
     xorOfBytes fingerprintOf occIn block view lowest lowestVacant closest leastFrom countTo count copies slotsFrom
-    slotsOf entriesIn entriesOf listOf isSettled
+    slotsOf entriesAt entriesOf listOf isSettled
 survived = record {
   copies-settled = refl;
   copies-there = refl;

@@ -16,8 +16,8 @@ use Rattle.survey.specs.declared.marks.Marks.{Marks}
 abbrev pub marksOf : ℕ → ℕ → ℕ → ℕ → ℕ
 marksOf a b c d = whole a (whole b (whole c d))
 
-abbrev pub setOf : Marks → ℕ
-setOf m = marksOf (m .a) (m .b) (m .c) (m .d)
+abbrev pub blocksIn : Marks → ℕ
+blocksIn m = marksOf (m .a) (m .b) (m .c) (m .d)
 
 unfoldable pub isIn : ℕ → ℕ → Bool
 isIn n b = eqb (field n b 1) 1

@@ -12,7 +12,7 @@ use Rattle.leaf.specs.Leaf.{Leaf}
 use Rattle.leaf.specs.Search.{smallestOf, count, countTo}
 use Rattle.leaf.specs.Tally.{wrongAt, atMost, mostTo, twins}
 use Rattle.leaf.specs.declared.tally.Tally.{Tally}
-use Rattle.survey.specs.Marks.{setOf, isIn}
+use Rattle.survey.specs.Marks.{blocksIn, isIn}
 use Rattle.survey.specs.declared.walk.Walk.{Walk}
 
 -- The stage: 0 while the walk goes on, 1 where the chain has ended, else the fault. The leaf at hand and the one before it; the last
@@ -39,7 +39,7 @@ stateOf w = record {
   leaves = w .leaves;
   entries = w .entries;
   last = w .last;
-  met = isIn (setOf (w .met));
+  met = isIn (blocksIn (w .met));
 }
 
 abbrev pub stopped : ℕ → State → State

@@ -7,7 +7,7 @@ ghost use mathlib.Core.Bool.{not};
 ghost use Prim.Native.Nat.{_≤_, _<_};
 ghost use Rattle.header.specs.Fields.{patched};
 ghost use Rattle.leaf.specs.Search.{lowest};
-ghost use Rattle.survey.specs.Marks.{setOf, isIn};
+ghost use Rattle.survey.specs.Marks.{blocksIn, isIn};
 
 pub struct Marks {
     pub a: u64,
@@ -18,7 +18,7 @@ pub struct Marks {
 
 impl Marks {
     pub fn none() -> Marks
-        ensures { λ r. ⌜ setOf r ≡ 0 ⌝ }
+        ensures { λ r. ⌜ blocksIn r ≡ 0 ⌝ }
     {
         Marks {
             a: 0,
@@ -30,7 +30,7 @@ impl Marks {
 
     pub fn has(self, block: usize) -> bool
         requires { ⌜ block < 256 ⌝ }
-        ensures { λ r. ⌜ r ≡ isIn (setOf self) block ⌝ }
+        ensures { λ r. ⌜ r ≡ isIn (blocksIn self) block ⌝ }
     {
         if block < 64 {
             return get(self.a, block, 1) == 1;
@@ -46,7 +46,7 @@ impl Marks {
 
     pub fn with(self, block: usize) -> Marks
         requires { ⌜ block < 256 ⌝ }
-        ensures { λ r. ⌜ setOf r ≡ patched (setOf self) block 1 1 ⌝ }
+        ensures { λ r. ⌜ blocksIn r ≡ patched (blocksIn self) block 1 1 ⌝ }
     {
         let mut r = self;
         if block < 64 {
@@ -69,7 +69,7 @@ impl Marks {
 // The lowest block that is not in the set, of n blocks; it stands in a `Slot`, as a slot's number would.
 pub fn lowest_out(marks: Marks, n: usize) -> Slot
     requires { ⌜ n ≤ 256 ⌝ }
-    ensures { λ r. ⌜ r ≡ lowest (λ b. not (isIn (setOf marks) b)) n 0 ⌝ }
+    ensures { λ r. ⌜ r ≡ lowest (λ b. not (isIn (blocksIn marks) b)) n 0 ⌝ }
 {
     let mut b = 0;
     while b < n {

@@ -18,7 +18,7 @@ ghost use Rattle.leaf.specs.Leaf.{leafIn, view};
 ghost use Rattle.leaf.specs.Search.{smallestOf};
 ghost use Rattle.leaf.specs.Tally.{twins};
 ghost use Rattle.leaf.specs.TallySteps.{Hits};
-ghost use Rattle.survey.specs.Marks.{setOf, isIn};
+ghost use Rattle.survey.specs.Marks.{blocksIn, isIn};
 ghost use Rattle.survey.specs.Walk.{stateOf, stopped, moved, faultBy, reachedBy, smallestBy, judged, start, surveyed, Noted};
 
 // Where the walk is and what it has noted. The stage is 0 while it goes on, 1 where the chain has ended, and else the fault:
@@ -89,7 +89,7 @@ fn onward(w: Walk, next: u64, reached: u64, t: Tally) -> Walk
 // Whether the next block was met before.
 fn is_again(met: Marks, next: u64) -> bool
     requires { ⌜ next < 256 ⌝ }
-    ensures { λ r. ⌜ r ≡ both (not (eqb next 0)) (isIn (setOf met) next) ⌝ }
+    ensures { λ r. ⌜ r ≡ both (not (eqb next 0)) (isIn (blocksIn met) next) ⌝ }
 {
     and(next != 0, met.has(next as usize))
 }

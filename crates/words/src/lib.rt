@@ -4,6 +4,8 @@ ghost use Prim.Native.Nat.{_+_, _≤_, _<_};
 ghost use lib.ListN.{length, getD};
 ghost use Rattle.words.specs.Words.{pairAt, fourAt, wordAt, storeAt};
 
+pub const LARGEST: u64 = 18446744073709551615;
+
 // A cast told with its bound, which the sums below need.
 pub fn wide(byte: u8) -> u64
     ensures { λ r. ⌜ (r ≡ byte) × (r < 256) ⌝ }

@@ -25,7 +25,7 @@ use Rattle.image.specs.Map.{lookup}
 use Rattle.image.specs.Answers.{valueAt}
 use Rattle.image.specs.Image.{blocks, leaves}
 use Rattle.index.specs.Reading.{entriesIn, isNone}
-use Rattle.index.specs.SoundTest.{Surveyed, survey-sound, sound-chain, noted-target as around}
+use Rattle.index.specs.SoundTest.{Surveyed, survey-sound, sound-chain, noted-around}
 use Rattle.lists.specs.Lists.{headIn, putAt}
 use Rattle.lists.specs.FullLists.{fullPut, putInto, putList}
 use Rattle.writing.specs.Writing.{targetOf, placeOf, isAmong, freeOf, Outcome, outcome, madeAs, isMissing}
@@ -82,13 +82,13 @@ module _ (l : List ℕ) (k : ℕ) (fine : badImage (length l) ≡ false) (e : su
   -- the target leaf is right, and was met
   pub target-right : Right (leaves l (surveyed (leaves l) (blocks l) k .target))
   target-right =
-      let a = around l k fine e in
+      let a = noted-around l k fine e in
       let b = surveyed (leaves l) (blocks l) k .target in
       all-split (Good (leaves l) (blocks l)) (a .front) (b ∷ a .behind) (sound-good (leaves l) (blocks l) (a .sound)) .1 .0 .right
 
   pub target-met : surveyed (leaves l) (blocks l) k .met (surveyed (leaves l) (blocks l) k .target) ≡ true
   target-met =
-      let a = around l k fine e in
+      let a = noted-around l k fine e in
       let s = survey-sound l k fine e in
       let st = surveyed (leaves l) (blocks l) k in
       all-split (λ x. st .met x ≡ true) (a .front) (st .target ∷ a .behind)

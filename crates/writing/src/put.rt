@@ -26,7 +26,7 @@ ghost use mathlib.Core.Bool.{true, not};
 ghost use Rattle.leaf.specs.Leaf.{Right, occIn};
 ghost use Rattle.leaf.specs.Search.{count, lowest, lowestVacant, slotOf};
 ghost use Rattle.leaf.specs.declared.search.Slot.the-variants.{At, Missing};
-ghost use Rattle.survey.specs.Marks.{setOf, isIn};
+ghost use Rattle.survey.specs.Marks.{blocksIn, isIn};
 ghost use Rattle.lists.specs.Lists.{headIn, putAt};
 ghost use Rattle.lists.specs.FullLists.{fullPut};
 ghost use Rattle.writing.specs.Writing.{outcome, madeAs, putOf};
@@ -119,10 +119,10 @@ fn put_split(
     value: u64,
 ) -> Made
     requires { ⌜ (256 * block + 256 ≤ length (now image)) × (block < 256) × (112 ≤ length (now list)) × (length (now image) ≤ 65536)
-        × (bitsOf head ≡ headIn (reads (now image)) block) × (isIn (setOf met) block ≡ true) × Right (leaves (now image) block)
+        × (bitsOf head ≡ headIn (reads (now image)) block) × (isIn (blocksIn met) block ≡ true) × Right (leaves (now image) block)
         × (count (leaves (now image) block) ≡ 14) ⌝ }
     ensures { λ r. ⌜ madeAs r (now (list .exit))
-        ≡ putBy Missing Missing (lowest (λ b. not (isIn (setOf met) b)) (blocks (now (image .entry))) 0)
+        ≡ putBy Missing Missing (lowest (λ b. not (isIn (blocksIn met) b)) (blocks (now (image .entry))) 0)
         (reads (now (image .entry))) block key value (now (list .entry)) ⌝ }
 {
     match lowest_out(met, image.len() / Leaf::BYTES) {
@@ -142,10 +142,10 @@ fn put_absent(
     value: u64,
 ) -> Made
     requires { ⌜ (256 * block + 256 ≤ length (now image)) × (block < 256) × (112 ≤ length (now list)) × (length (now image) ≤ 65536)
-        × (bitsOf head ≡ headIn (reads (now image)) block) × (isIn (setOf met) block ≡ true) × Right (leaves (now image) block) ⌝ }
+        × (bitsOf head ≡ headIn (reads (now image)) block) × (isIn (blocksIn met) block ≡ true) × Right (leaves (now image) block) ⌝ }
     ensures { λ r. ⌜ madeAs r (now (list .exit))
         ≡ putBy Missing (lowestVacant (occIn (headIn (reads (now (image .entry))) block)) 14)
-        (lowest (λ b. not (isIn (setOf met) b)) (blocks (now (image .entry))) 0) (reads (now (image .entry))) block key value
+        (lowest (λ b. not (isIn (blocksIn met) b)) (blocks (now (image .entry))) 0) (reads (now (image .entry))) block key value
         (now (list .entry)) ⌝ }
 {
     match lowest_vacant(head) {
@@ -156,10 +156,10 @@ fn put_absent(
 
 fn put_in(image: &[u8], block: u64, met: Marks, list: &mut [u64], key: u64, value: u64) -> Made
     requires { ⌜ (256 * block + 256 ≤ length (now image)) × (block < 256) × (112 ≤ length (now list)) × (length (now image) ≤ 65536)
-        × (isIn (setOf met) block ≡ true) × Right (leaves (now image) block) ⌝ }
+        × (isIn (blocksIn met) block ≡ true) × Right (leaves (now image) block) ⌝ }
     ensures { λ r. ⌜ madeAs r (now (list .exit))
         ≡ putBy (slotOf (leaves (now (image .entry)) block) key) (lowestVacant (occIn (headIn (reads (now (image .entry))) block)) 14)
-        (lowest (λ b. not (isIn (setOf met) b)) (blocks (now (image .entry))) 0) (reads (now (image .entry))) block key value
+        (lowest (λ b. not (isIn (blocksIn met) b)) (blocks (now (image .entry))) 0) (reads (now (image .entry))) block key value
         (now (list .entry)) ⌝ }
 {
     match slot_in(image, block, key) {

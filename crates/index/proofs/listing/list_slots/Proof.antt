@@ -7,7 +7,7 @@ use denote.Ref.{now}
 use lib.ListN.{length, take, drop, length-set}
 use lib.Seq.{getD-take}
 use Rattle.leaf.specs.Leaf.{leafIn}
-use Rattle.image.specs.Entries.{entriesIn}
+use Rattle.image.specs.Entries.{entriesAt}
 use Rattle.index.specs.Filling.{buffers, fill}
 use Rattle.index.specs.ListingLaws.{slots-end, slots-full, slots-next, first-length}
 use Rattle.index.proofs.listing.list_slots.Statement.{statement}
@@ -16,8 +16,8 @@ use Rattle.index.proofs.listing.list_slots.Tie as tie
 abbrev Inv-loop : tie.InvT-loop
 Inv-loop leaf order count keys₀ values₀ room used n₀ i₀ keys values n i =
     (i ≤ count) × (length keys ≡ length keys₀) × (length values ≡ length values₀)
-    × (fill room (entriesIn (leafIn leaf) (drop i (take count order))) (buffers n keys values)
-    ≡ fill room (entriesIn (leafIn leaf) (take count order)) (buffers used keys₀ values₀))
+    × (fill room (entriesAt (leafIn leaf) (drop i (take count order))) (buffers n keys values)
+    ≡ fill room (entriesAt (leafIn leaf) (take count order)) (buffers used keys₀ values₀))
 
 abbrev μ-loop : tie.MeasureT-loop
 μ-loop leaf order count keys₀ values₀ room used n₀ i₀ keys values n i = count - i

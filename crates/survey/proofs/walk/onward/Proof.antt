@@ -1,7 +1,7 @@
 use borrow.Author.Needs.{needs}
 use Prim.Native.Nat.{_+_}
 use mathlib.Core.Path.{ap, _∙_}
-use Rattle.survey.specs.Marks.{setOf, isIn, in-with}
+use Rattle.survey.specs.Marks.{blocksIn, isIn, in-with}
 use Rattle.survey.proofs.walk.onward.Statement.{statement}
 use Rattle.survey.proofs.walk.onward.Tie as tie
 
@@ -20,7 +20,7 @@ returns c =
       leaves = a .w .leaves + 1;
       entries = a .w .entries + a .t .entries;
       last = c .pick4 .ensures i;
-      met = (ap isIn (p1 .before .with .ensures) ∙ in-with (setOf (a .w .met)) (a .next)) i;
+      met = (ap isIn (p1 .before .with .ensures) ∙ in-with (blocksIn (a .w .met)) (a .next)) i;
     }
 
 pub onward-spec : {M : Type 1} → statement M

@@ -11,7 +11,7 @@ use Rattle.leaf.specs.Search.{lowest, lowestVacant}
 use Rattle.leaf.specs.SearchLaws.{vacant-at}
 use Rattle.leaf.specs.declared.search.Slot.{Slot}
 use Rattle.leaf.specs.declared.search.Slot.the-variants.{Missing}
-use Rattle.survey.specs.Marks.{setOf, isIn}
+use Rattle.survey.specs.Marks.{blocksIn, isIn}
 use Rattle.image.specs.Image.{blocks, leaves}
 use Rattle.lists.specs.Lists.{putAt}
 use Rattle.lists.specs.Put.{none-vacant}
@@ -56,7 +56,7 @@ returns c =
     let s = p .before .before .before in
     let a = s .args in
     let l = now (a .image) in
-    let free = lowest (λ b. not (isIn (setOf (a .met)) b)) (blocks l) 0 in
+    let free = lowest (λ b. not (isIn (blocksIn (a .met)) b)) (blocks l) 0 in
     y .put-plain .ensures
     ∙ ap (λ (h : ℕ). outcome 0 (putAt h (leaves l (a .block)) (a .block) (x .s .given .0 .0) (a .key) (a .value))
     (now (a .list))) (s .pre .4)
@@ -71,7 +71,7 @@ returns-2 c =
     let s = p .before .before .before in
     let a = s .args in
     let l = now (a .image) in
-    let free = lowest (λ b. not (isIn (setOf (a .met)) b)) (blocks l) 0 in
+    let free = lowest (λ b. not (isIn (blocksIn (a .met)) b)) (blocks l) 0 in
     y .put-split .ensures
     ∙ ap (λ (z : Slot). putBy Missing z free (reads l) (a .block) (a .key) (a .value) (now (a .list)))
     (sym (t .enum-told .given .1) ∙ p .lowest-vacant .ensures ∙ ap (λ (h : ℕ). lowestVacant (occIn h) 14) (s .pre .4))

@@ -7,7 +7,7 @@ use Rattle.leaf.specs.Leaf.{occIn}
 use Rattle.leaf.specs.Search.{lowest, lowestVacant}
 use Rattle.leaf.specs.declared.search.Slot.{Slot}
 use Rattle.image.specs.Image.{blocks}
-use Rattle.survey.specs.Marks.{setOf, isIn}
+use Rattle.survey.specs.Marks.{blocksIn, isIn}
 use Rattle.lists.specs.Lists.{headIn}
 use Rattle.writing.specs.PutLaws.{putBy}
 use Rattle.writing.proofs.put.put_in.Statement.{statement}
@@ -19,7 +19,7 @@ returns c =
     let a = p .before .before .before .args in
     let l = now (a .image) in
     let vacant = lowestVacant (occIn (headIn (reads l) (a .block))) 14 in
-    let free = lowest (λ b. not (isIn (setOf (a .met)) b)) (blocks l) 0 in
+    let free = lowest (λ b. not (isIn (blocksIn (a .met)) b)) (blocks l) 0 in
     ap (λ (x : Slot). putBy x vacant free (reads l) (a .block) (a .key) (a .value) (now (a .list)))
     (sym (c .enum-told .given .1) ∙ p .slot-in .ensures .0)
 
@@ -31,7 +31,7 @@ returns-2 c =
     let a = p .before .before .before .args in
     let l = now (a .image) in
     let vacant = lowestVacant (occIn (headIn (reads l) (a .block))) 14 in
-    let free = lowest (λ b. not (isIn (setOf (a .met)) b)) (blocks l) 0 in
+    let free = lowest (λ b. not (isIn (blocksIn (a .met)) b)) (blocks l) 0 in
     y .put-absent .ensures
     ∙ ap (λ (x : Slot). putBy x vacant free (reads l) (a .block) (a .key) (a .value) (now (a .list)))
     (sym (t .enum-told2 .given .1) ∙ p .slot-in .ensures .0)

@@ -8,7 +8,7 @@ use Rattle.leaf.specs.SearchLaws.{lowest-at}
 use Rattle.leaf.specs.declared.search.Slot.{Slot}
 use Rattle.leaf.specs.declared.search.Slot.the-variants.{Missing}
 use Rattle.image.specs.Image.{blocks}
-use Rattle.survey.specs.Marks.{setOf, isIn}
+use Rattle.survey.specs.Marks.{blocksIn, isIn}
 use Rattle.writing.specs.PutLaws.{putBy, out-apart}
 use Rattle.writing.proofs.put.put_split.Statement.{statement}
 use Rattle.writing.proofs.put.put_split.Tie as tie
@@ -19,14 +19,14 @@ put-full-requires c κs =
     let p = x .before .before in
     let s = p .before .before .before in
     let a = s .args in
-    let r = lowest-at (λ b. not (isIn (setOf (a .met)) b)) (blocks (now (a .image))) 0 (x .c .given .0 .0)
+    let r = lowest-at (λ b. not (isIn (blocksIn (a .met)) b)) (blocks (now (a .image))) 0 (x .c .given .0 .0)
     (sym (p .lowest-out .ensures) ∙ x .c .given .1) in (
       omega arith,
       omega arith,
       omega (arith, r .below),
       omega arith,
       s .pre .4,
-      out-apart (setOf (a .met)) (a .block) (x .c .given .0 .0) (s .pre .5) (r .passes),
+      out-apart (blocksIn (a .met)) (a .block) (x .c .given .0 .0) (s .pre .5) (r .passes),
       s .pre .6,
       s .pre .7,
     )
