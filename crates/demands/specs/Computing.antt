@@ -12,8 +12,7 @@ use Rattle.machine.specs.Taking.{badArrivals, badList}
 use Rattle.survey.specs.Walk.{faultOf, judged, surveyed, walk}
 use Rattle.image.specs.Map.{lookup}
 use Rattle.image.specs.Order.{slotsFrom, slotsOf}
-use Rattle.image.specs.Entries as E
-use Rattle.image.specs.Entries.{entriesOf, listOf}
+use Rattle.image.specs.Entries.{entriesAt, entriesOf, listOf}
 use Rattle.image.specs.Copies.{copies}
 use Rattle.verdict.specs.Place.{targetFrom, beforeFrom}
 use Rattle.index.specs.Reading.{chainFrom, chainOf, entriesIn, isSound, findOf, recoveryOf}
@@ -25,7 +24,7 @@ unfoldable pub computing : Unit {0}
 unfolding reads wordAt storeAt field patched altIn fingerprintIn fingerprintOf isLocked isOccupied marked xorOfBytes cleared
     flipped block occIn view count countTo holdsKey lowest lowestVacant slotOf closest leastFrom atMost mostTo shares someTo
     twinAt twins wrongAt isSettled decode written badImage badArrivals badList faultOf judged surveyed walk lookup slotsFrom
-    slotsOf entriesOf listOf copies targetFrom beforeFrom chainFrom chainOf entriesIn isSound findOf recoveryOf nearPut putAt
+    slotsOf entriesAt entriesOf listOf copies targetFrom beforeFrom chainFrom chainOf entriesIn isSound findOf recoveryOf nearPut putAt
     farPut filledHead copiesBeside plainPut unlinkList clearList isAlone delList putList fullPut goesUp movedSlots splitList
-    putOf delOf E.entriesIn
+    putOf delOf
 computing = tt

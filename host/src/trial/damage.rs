@@ -133,21 +133,38 @@ pub fn each_clause(calls: &dyn Calls, settings: &Settings) {
 
 /// A sound image with this one clause broken somewhere, where that can be done.
 fn with_broken(image: &[u8], clause: Clause, random: &mut Random) -> Option<Vec<u8>> {
-    let chain = sound_chain(image).expect("a sound image");
-    let at = random.index(chain.len());
-    let Chained { block, mut leaf } = chain[at].clone();
+    let mut chain = sound_chain(image).expect("a sound image");
+    chain.truncate(1 + random.index(chain.len()));
+    let Chained { block, mut leaf } = chain.pop()?;
+    let mut damaged = image.to_vec();
+    match clause {
+        Clause::NoneEmptyButBlockZero if block == 0 => return None,
+        Clause::NoBlockTwice => {
+            let met = chain.iter().map(|chained| chained.block).chain([block]).filter(|&block| block != 0);
+            let again = pick_some(&met.collect::<Vec<_>>(), random)?;
+            leaf.set_word(sibling_place(leaf.alt()), again as u64);
+        }
+        Clause::AboveEarlier => {
+            let earlier: Vec<u64> = chain.iter().flat_map(|chained| chained.leaf.keys()).collect();
+            let (slot, highest) = (pick_some(&leaf.occupied_slots(), random)?, *earlier.iter().max()?);
+            let any_earlier = random.pick(&earlier);
+            let key = random.pick(&[highest, highest.saturating_sub(1), any_earlier]);
+            fill(&mut leaf, slot, Entry { key, value: random.word() });
+        }
+        _ => break_within(&mut leaf, clause, blocks(image) as u64, random)?,
+    }
+    write_leaf(&mut damaged, block, &leaf);
+    Some(damaged).filter(|damaged| damaged[..] != *image)
+}
+
+/// A leaf of an image of n blocks with a clause broken that looks at no other leaf.
+fn break_within(leaf: &mut Leaf, clause: Clause, n: u64, random: &mut Random) -> Option<()> {
     let slots = leaf.occupied_slots();
-    let n = blocks(image) as u64;
     match clause {
         Clause::LockZero => leaf.words[0] |= 1 << 14,
         Clause::SiblingBelowN => {
             let sibling = random.pick(&[n, n + 1, 256 + n, 1 << 32, 1 << 32 | 1, 1 << 63, u64::MAX]);
             leaf.set_word(sibling_place(leaf.alt()), sibling);
-        }
-        Clause::NoBlockTwice => {
-            let met = chain[..=at].iter().map(|chained| chained.block as u64);
-            let again = pick_some(&met.filter(|&block| block != 0).collect::<Vec<_>>(), random)?;
-            leaf.set_word(sibling_place(leaf.alt()), again);
         }
         Clause::OwnFingerprint => {
             let slot = pick_some(&slots, random)?;
@@ -159,25 +176,12 @@ fn with_broken(image: &[u8], clause: Clause, random: &mut Random) -> Option<Vec<
                 return None;
             }
             let key = leaf.key(from);
-            fill(&mut leaf, to, Entry { key, value: random.word() });
+            fill(leaf, to, Entry { key, value: random.word() });
         }
-        Clause::AboveEarlier => {
-            let earlier: Vec<u64> = chain[..at].iter().flat_map(|chained| chained.leaf.keys()).collect();
-            let (slot, highest) = (pick_some(&slots, random)?, *earlier.iter().max()?);
-            let any_earlier = random.pick(&earlier);
-            let key = random.pick(&[highest, highest.saturating_sub(1), any_earlier]);
-            fill(&mut leaf, slot, Entry { key, value: random.word() });
-        }
-        Clause::NoneEmptyButBlockZero => {
-            if block == 0 {
-                return None;
-            }
-            leaf.words[0] &= !0x3FFF;
-        }
+        Clause::NoneEmptyButBlockZero => leaf.words[0] &= !0x3FFF,
+        Clause::NoBlockTwice | Clause::AboveEarlier => unreachable!("these look at other leaves"),
     }
-    let mut damaged = image.to_vec();
-    write_leaf(&mut damaged, block, &leaf);
-    Some(damaged).filter(|damaged| damaged[..] != *image)
+    Some(())
 }
 
 fn pick_some<T: Copy>(from: &[T], random: &mut Random) -> Option<T> {
