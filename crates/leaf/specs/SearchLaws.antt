@@ -63,6 +63,11 @@ module _ (f : ℕ → Bool) where
             (record { from = omega arith; below = omega arith; passes = r .passes; first = λ t a b. r .first t (omega arith) b }))
       ]
 
+  pub lowest-not : (n i : ℕ) → ((t : ℕ) → i ≤ t → t < i + n → f t ≡ false) → lowest f n i ≡ Missing
+  unfolding lowest
+  lowest-not zero i h = refl
+  lowest-not (suc n) i h = rw (h i (omega arith) (omega arith)) (lowest-not n (suc i) (λ t a b. h t (omega arith) (omega arith)))
+
 -- two tests that agree find the same slot
 pub lowest-same : (f g : ℕ → Bool) (n i : ℕ) → ((t : ℕ) → i ≤ t → t < i + n → f t ≡ g t) → lowest f n i ≡ lowest g n i
 unfolding lowest

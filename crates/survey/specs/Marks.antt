@@ -1,9 +1,9 @@
 -- A set of block numbers as one number: bit b says that b is in it. Four words hold it.
 use mathlib.Core.Path.{_≡_, refl, sym, ap, _∙_, fun-ext}
-use mathlib.Core.Bool.{Bool, true, false}
+use mathlib.Core.Bool.{Bool, true, false, not}
 use Prim.Native.Nat.{ℕ, _+_, _-_, _^_, _≤_, _<_}
-use native.Mathlib.Decide.{ℕ-discrete}
-use native.Mathlib.Nat.{zero-div}
+use native.Mathlib.Decide.{ℕ-discrete, decLt}
+use native.Mathlib.Nat.{zero-add, zero-div}
 use native.Mathlib.Omega.{arith}
 use lib.Dec.{eqb, lit<}
 use Rattle.words.specs.Update.{upd, upd-same, upd-other}
@@ -11,6 +11,10 @@ use Rattle.header.specs.Fields.{field, patched}
 use Rattle.header.specs.FieldLaws.{field-patched, field-apart}
 use Rattle.header.specs.Header.{whole}
 use Rattle.header.specs.HeaderCode.{field-low, field-high, patched-low, patched-high}
+use Rattle.header.specs.Zeros.{LowestZero}
+use Rattle.leaf.specs.Search.{lowest}
+use Rattle.leaf.specs.SearchLaws.{lowest-is, lowest-not}
+use Rattle.leaf.specs.declared.search.Slot.the-variants.{At, Missing}
 use Rattle.survey.specs.declared.marks.Marks.{Marks}
 
 abbrev pub marksOf : ℕ → ℕ → ℕ → ℕ → ℕ
@@ -79,3 +83,75 @@ module _ (a b c d x : ℕ) (sa : a < 2 ^ 64) (sb : b < 2 ^ 64) (sc : c < 2 ^ 64)
   pub with-d : 192 ≤ x → marksOf a b c (patched d (x - 192) 1 1) ≡ patched (marksOf a b c d) x 1 1
   with-d g = sym (up x (x - 64) a (whole b (whole c d)) sa (omega arith)
       ∙ ap (whole a) (up (x - 64) (x - 128) b (whole c d) sb (omega arith) ∙ ap (whole b) (up (x - 128) (x - 192) c d sc (omega arith))))
+
+-- ---- the lowest that is not in the set
+
+-- all below r are in the set of 256, and r, where it is one of them, is not
+pub record FirstOut (n r : ℕ) : Type 0 where
+  pub most : r ≤ 256
+  pub below : (t : ℕ) → t < r → isIn n t ≡ true
+  pub at : r < 256 → isIn n r ≡ false
+
+-- by the lowest zero of the word w, whose bits stand from o on, where all before are in the set
+module _ (n w o : ℕ) (last : o ≤ 192) (has : (x : ℕ) → o ≤ x → x < o + 64 → eqb (field w (x - o) 1) 1 ≡ isIn n x)
+    (before : (t : ℕ) → t < o → isIn n t ≡ true) (r : ℕ) (z : LowestZero w 64 r) where
+  pub in-to : (t : ℕ) → t < o + r → isIn n t ≡ true
+  in-to t h = elim (decLt t o) [
+    | yes b ↦ before t b
+    | no b ↦ sym (has t (omega arith) (omega (arith, z .most))) ∙ ap (λ (x : ℕ). eqb x 1) (z .below (t - o) (omega arith))
+  ]
+
+  pub out-here : (o + r < 256 → r < 64) → FirstOut n (o + r)
+  out-here h =
+      let e : o + r - o ≡ r = omega arith in
+      record {
+        most = omega (arith, z .most);
+        below = in-to;
+        at = λ b.
+            let l : r < 64 = h b in
+            sym (has (o + r) (omega arith) (omega arith)) ∙ rw e (ap (λ (x : ℕ). eqb x 1) (z .at l));
+      }
+
+-- word by word: each is looked at where those before it are full
+module _ (a b c d : ℕ) (sa : a < 2 ^ 64) (sb : b < 2 ^ 64) (sc : c < 2 ^ 64) (ra : ℕ) (za : LowestZero a 64 ra) where
+  abbrev m : ℕ
+  m = marksOf a b c d
+
+  in-a : (x : ℕ) → 0 ≤ x → x < 0 + 64 → eqb (field a (x - 0) 1) 1 ≡ isIn m x
+  in-a x g h = let e : x - 0 ≡ x = omega arith in rw e (has-a a b c d x sa sb sc (omega arith))
+
+  pub out-a : ra < 64 → FirstOut m ra
+  out-a h = rw (← zero-add ra) (out-here m a 0 (omega arith) in-a (λ t l. absurd (omega arith)) ra za (λ l. h))
+
+  module _ (fa : 64 ≤ ra) (rb : ℕ) (zb : LowestZero b 64 rb) where
+    full-a : (t : ℕ) → t < 64 → isIn m t ≡ true
+    full-a t l = in-to m a 0 (omega arith) in-a (λ t l. absurd (omega arith)) ra za t (omega arith)
+
+    pub out-b : rb < 64 → FirstOut m (64 + rb)
+    out-b h = out-here m b 64 (omega arith) (λ x. has-b a b c d x sa sb sc) full-a rb zb (λ l. h)
+
+    module _ (fb : 64 ≤ rb) (rc : ℕ) (zc : LowestZero c 64 rc) where
+      full-b : (t : ℕ) → t < 128 → isIn m t ≡ true
+      full-b t l = in-to m b 64 (omega arith) (λ x. has-b a b c d x sa sb sc) full-a rb zb t (omega arith)
+
+      pub out-c : rc < 64 → FirstOut m (128 + rc)
+      out-c h = out-here m c 128 (omega arith) (λ x. has-c a b c d x sa sb sc) full-b rc zc (λ l. h)
+
+      pub out-d : 64 ≤ rc → (rd : ℕ) → LowestZero d 64 rd → FirstOut m (192 + rd)
+      out-d fc rd zd =
+          out-here m d 192 (omega arith) (λ x g l. has-d a b c d x sa sb sc g)
+          (λ t l. in-to m c 128 (omega arith) (λ x. has-c a b c d x sa sb sc) full-b rc zc t (omega arith)) rd zd
+          (λ l. omega arith)
+
+-- the search among n
+module _ (m n r : ℕ) (h : n ≤ 256) (z : FirstOut m r) where
+  pub out-found : r < n → lowest (λ b. not (isIn m b)) n 0 ≡ At r
+  out-found l = lowest-is (λ b. not (isIn m b)) n 0 r (record {
+    from = omega arith;
+    below = omega arith;
+    passes = ap not (z .at (omega arith));
+    first = λ t g k. ap not (z .below t k);
+  })
+
+  pub out-missing : n ≤ r → lowest (λ b. not (isIn m b)) n 0 ≡ Missing
+  out-missing l = lowest-not (λ b. not (isIn m b)) n 0 (λ t g k. ap not (z .below t (omega arith)))

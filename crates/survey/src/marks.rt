@@ -1,5 +1,6 @@
 // A set of block numbers, one bit for each.
 use header::bits::get;
+use header::bits::lowest_zero;
 use header::bits::replace;
 use leaf::search::Slot;
 ghost use mathlib.Core.Path.{_≡_};
@@ -7,7 +8,7 @@ ghost use mathlib.Core.Bool.{not};
 ghost use Prim.Native.Nat.{_≤_, _<_};
 ghost use Rattle.header.specs.Fields.{patched};
 ghost use Rattle.leaf.specs.Search.{lowest};
-ghost use Rattle.survey.specs.Marks.{blocksIn, isIn};
+ghost use Rattle.survey.specs.Marks.{blocksIn, isIn, FirstOut};
 
 pub struct Marks {
     pub a: u64,
@@ -64,6 +65,25 @@ impl Marks {
         r.d = replace(self.d, block - 192, 1, 1);
         r
     }
+
+    // The lowest block that is not in the set; 256 where each is.
+    fn first_out(self) -> usize
+        ensures { λ r. ⌜ FirstOut (blocksIn self) r ⌝ }
+    {
+        let a = lowest_zero(self.a);
+        if a < 64 {
+            return a;
+        }
+        let b = lowest_zero(self.b);
+        if b < 64 {
+            return 64 + b;
+        }
+        let c = lowest_zero(self.c);
+        if c < 64 {
+            return 128 + c;
+        }
+        192 + lowest_zero(self.d)
+    }
 }
 
 // The lowest block that is not in the set, of n blocks; it stands in a `Slot`, as a slot's number would.
@@ -71,12 +91,6 @@ pub fn lowest_out(marks: Marks, n: usize) -> Slot
     requires { ⌜ n ≤ 256 ⌝ }
     ensures { λ r. ⌜ r ≡ lowest (λ b. not (isIn (blocksIn marks) b)) n 0 ⌝ }
 {
-    let mut b = 0;
-    while b < n {
-        if !marks.has(b) {
-            return Slot::At(b);
-        }
-        b += 1;
-    }
-    Slot::Missing
+    let b = marks.first_out();
+    if b < n { Slot::At(b) } else { Slot::Missing }
 }
