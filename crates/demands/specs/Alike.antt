@@ -7,14 +7,16 @@ use Prim.Native.Nat.{ℕ, _/_}
 use lib.Dec.{leb, eqb}
 use lib.ListN.{length}
 use Rattle.words.specs.Bools.{both, by-test}
+use Rattle.words.specs.Below.{countBelow}
+use Rattle.words.specs.BelowLaws.{count-cong}
 use Rattle.leaf.specs.Leaf.{Leaf}
-use Rattle.leaf.specs.Search.{countTo, lowest}
+use Rattle.leaf.specs.Search.{lowest}
 use Rattle.leaf.specs.Tally.{atMost}
 use Rattle.steps.specs.Refusals.{answer, badImage}
 use Rattle.machine.specs.Taking.{runTable, cutTable}
 use Rattle.image.specs.Map.{lookup}
 use Rattle.image.specs.Same.{Same, Slots}
-use Rattle.image.specs.CountLaws.{count-ext, count-slots}
+use Rattle.image.specs.CountLaws.{count-slots}
 use Rattle.image.specs.ChainLaws.{Agree, all-split}
 use Rattle.image.specs.Image.{leaves, Alike}
 use Rattle.image.specs.ImageLaws.{alike-agree}
@@ -75,7 +77,7 @@ pub record Demanded (asked : Asked) (m : List ℕ) (r : Result asked) (s : Resul
 
 reaches-same : {L M : Leaf} (k : ℕ) → Slots L M → reachesTo M k ≡ reachesTo L k
 unfolding atMost
-reaches-same {L} {M} k S = ap (λ (n : ℕ). not (eqb (countTo (atMost M k) n) 0)) (S .size) ∙ ap (λ (n : ℕ). not (eqb n 0)) e
+reaches-same {L} {M} k S = ap (λ (n : ℕ). not (eqb (countBelow (atMost M k) n) 0)) (S .size) ∙ ap (λ (n : ℕ). not (eqb n 0)) e
   where
     by-slot : (s : ℕ) → atMost M k s ≡ atMost L k s
     by-slot s =
@@ -84,8 +86,8 @@ reaches-same {L} {M} k S = ap (λ (n : ℕ). not (eqb (countTo (atMost M k) n) 0
         (λ o. ap (λ (b : Bool). both b (leb (M .key s) k)) (S .occ s ∙ o)
         ∙ sym (ap (λ (b : Bool). both b (leb (L .key s) k)) o))
 
-    e : countTo (atMost M k) (L .size) ≡ countTo (atMost L k) (L .size)
-    e = count-ext (atMost M k) (atMost L k) (L .size) (λ s h. by-slot s)
+    e : countBelow (atMost M k) (L .size) ≡ countBelow (atMost L k) (L .size)
+    e = count-cong (atMost M k) (atMost L k) (L .size) (λ s h. by-slot s)
 
 target-same : (I J : ℕ → Leaf) (k t : ℕ) (bs : List ℕ) → Agree bs I J → targetFrom J k t bs ≡ targetFrom I k t bs
 unfolding targetFrom

@@ -6,9 +6,9 @@ use mathlib.Core.Logic.{_⊎_, inl, inr}
 use Prim.Native.Nat.{ℕ, _+_, _*_, _≤_}
 use native.Mathlib.Omega.{arith}
 use lib.ListN.{length}
+use Rattle.words.specs.BelowLaws.{count-le, count-cong}
 use Rattle.steps.specs.declared.Step.{Step}
 use Rattle.steps.specs.Model.{line, run, cut, rule01, Permitted, isLineWrite, lineWrites}
-use Rattle.steps.specs.BelowLaws.{count-cong, count-le}
 use Rattle.steps.specs.Settling.{AllSettled}
 use Rattle.steps.specs.Rules.{lawful01, lines-in-lines}
 use Rattle.steps.specs.Encoding.{stepAt, stepsOf, written}

@@ -6,7 +6,7 @@ use Prim.Native.Nat.{ℕ, _+_, _*_}
 use borrow.Author.Tests.{eqb-true}
 use lib.Dec.{eqb}
 use lib.ListN.{getD, replicate}
-use Rattle.words.specs.Bools.{both, both-true, differ}
+use Rattle.words.specs.Bools.{bit, both, both-true, differ}
 use Rattle.words.specs.Words.{reads}
 use Rattle.machine.specs.Taking.{storeWord, runOf, cutOf}
 use Rattle.image.specs.Image.{leaves}
@@ -44,10 +44,6 @@ pub data Act : Type 0 where
   bytes : Act
   -- a step of the last list: its two words
   step : ℕ → Act
-
-abbrev bit : Bool → ℕ
-bit true = 1
-bit false = 0
 
 abbrev pub counts : Outcome → List ℕ
 counts o = o .answer ∷ o .steps ∷ o .lines ∷ o .words ∷ []

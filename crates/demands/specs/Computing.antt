@@ -1,10 +1,11 @@
 -- What the checker has to open to compute a call whole, for the statements that are proved by computing.
 use Rattle.words.specs.Words.{reads, wordAt, storeAt}
+use Rattle.words.specs.Below.{anyBelow, countBelow}
 use Rattle.header.specs.Fields.{field, patched}
 use Rattle.header.specs.Header.{altIn, fingerprintIn, fingerprintOf, isLocked, isOccupied, marked, xorOfBytes, cleared, flipped}
 use Rattle.leaf.specs.Leaf.{block, occIn, view}
-use Rattle.leaf.specs.Search.{count, countTo, holdsKey, lowest, lowestVacant, slotOf, closest, leastFrom}
-use Rattle.leaf.specs.Tally.{atMost, mostTo, shares, someTo, twinAt, twins, wrongAt}
+use Rattle.leaf.specs.Search.{count, holdsKey, lowest, lowestVacant, slotOf, closest, leastFrom}
+use Rattle.leaf.specs.Tally.{atMost, mostTo, shares, twinAt, twins, wrongAt}
 use Rattle.steps.specs.Model.{isSettled}
 use Rattle.steps.specs.Encoding.{decode, written}
 use Rattle.steps.specs.Refusals.{badImage}
@@ -22,7 +23,7 @@ use Rattle.writing.specs.Writing.{putOf, delOf}
 
 unfoldable pub computing : Unit {0}
 unfolding reads wordAt storeAt field patched altIn fingerprintIn fingerprintOf isLocked isOccupied marked xorOfBytes cleared
-    flipped block occIn view count countTo holdsKey lowest lowestVacant slotOf closest leastFrom atMost mostTo shares someTo
+    flipped block occIn view count countBelow holdsKey lowest lowestVacant slotOf closest leastFrom atMost mostTo shares anyBelow
     twinAt twins wrongAt isSettled decode written badImage badArrivals badList faultOf judged surveyed walk lookup slotsFrom
     slotsOf entriesAt entriesOf listOf copies targetFrom beforeFrom chainFrom chainOf entriesIn isSound findOf recoveryOf nearPut putAt
     farPut filledHead copiesBeside plainPut unlinkList clearList isAlone delList putList fullPut goesUp movedSlots splitList

@@ -11,13 +11,13 @@ use lib.Dec.{ltb, eqb}
 use lib.ListN.{length, getD}
 use Rattle.words.specs.Words.{reads}
 use Rattle.words.specs.Bools.{both, both-true, by-test, differ, not-so, or-true, or-right}
+use Rattle.words.specs.Below.{anyBelow}
+use Rattle.words.specs.BelowLaws.{any-make, any-at, count-all, count-less}
 use Rattle.leaf.specs.Leaf.{Leaf, Taken}
 use Rattle.leaf.specs.Search.{count}
-use Rattle.leaf.specs.SearchLaws.{lowest-at, lowest-none, count-all, count-less}
+use Rattle.leaf.specs.SearchLaws.{lowest-at, lowest-none}
 use Rattle.leaf.specs.declared.search.Slot.{Slot}
 use Rattle.leaf.specs.declared.search.Slot.the-variants.{At, Missing}
-use Rattle.steps.specs.Below.{anyBelow}
-use Rattle.steps.specs.BelowLaws.{any-at, any-make}
 use Rattle.steps.specs.Model.{line, made, rule01, settled}
 use Rattle.steps.specs.Encoding.{second, wellFormed, stepAt, formedAt}
 use Rattle.steps.specs.EncodingLaws.{words-formed, pair-of}

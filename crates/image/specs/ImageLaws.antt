@@ -12,11 +12,11 @@ use lib.Dec.{ltb, eqb}
 use lib.ListN.{replicate, length-replicate, getD-replicate, List·getD-eq-default, length}
 use Rattle.words.specs.Words.{wordAt, reads}
 use Rattle.words.specs.Bools.{differ}
+use Rattle.words.specs.BelowLaws.{count-zero}
 use Rattle.header.specs.Header.{fingerprintOf}
 use Rattle.leaf.specs.Leaf.{Leaf, Taken, leafOf, block, view}
 use Rattle.leaf.specs.LeafLaws.{block-at, block-past}
 use Rattle.leaf.specs.Search.{count}
-use Rattle.leaf.specs.SearchLaws.{count-zero}
 use Rattle.steps.specs.Refusals.{badImage}
 use Rattle.image.specs.PotentialLaws.{sum-agree}
 use Rattle.image.specs.Chain.{All, Links, Has, Sound}

@@ -9,9 +9,9 @@ use native.Mathlib.Omega.{arith}
 use lib.ListN.{length}
 use Rattle.words.specs.Bools.{differ}
 use Rattle.words.specs.Update.{upd-other}
+use Rattle.words.specs.BelowLaws.{count-zero}
 use Rattle.leaf.specs.Leaf.{Leaf, Taken, In, Right}
 use Rattle.leaf.specs.Search.{count}
-use Rattle.leaf.specs.SearchLaws.{count-zero}
 use Rattle.image.specs.Map.{SameMap, Altered}
 use Rattle.image.specs.MapLaws.{map-trans, altered-self}
 use Rattle.image.specs.Chain.{All, Distinct, Filled}

@@ -1,8 +1,9 @@
 -- What is looked for in a leaf.
-use mathlib.Core.Bool.{Bool, true, false, cond, not}
-use Prim.Native.Nat.{ℕ, zero, suc, _+_, _<_}
+use mathlib.Core.Bool.{Bool, true, false, not}
+use Prim.Native.Nat.{ℕ, zero, suc, _<_}
 use lib.Dec.{ltb, leb, eqb}
 use Rattle.words.specs.Bools.{both}
+use Rattle.words.specs.Below.{countBelow}
 use Rattle.header.specs.Header.{fingerprintOf}
 use Rattle.leaf.specs.Leaf.{Leaf}
 use Rattle.leaf.specs.declared.search.Slot.{Slot}
@@ -56,10 +57,6 @@ keyOr0 L Missing = 0
 unfoldable pub smallestOf : Leaf → ℕ
 smallestOf L = keyOr0 L (leastFrom L 0)
 
--- how many of the first n slots pass a test, and how many are occupied
-unfoldable pub countTo : (ℕ → Bool) → ℕ → ℕ
-countTo f zero = 0
-countTo f (suc n) = countTo f n + cond (f n) 1 0
-
+-- how many slots are occupied
 unfoldable pub count : Leaf → ℕ
-count L = countTo (L .occ) (L .size)
+count L = countBelow (L .occ) (L .size)

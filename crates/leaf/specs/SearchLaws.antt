@@ -1,7 +1,7 @@
 -- What a caller knows of a search without its recursion: it finds a slot exactly when one passes, and that slot is the lowest, the
--- least or, in a right leaf, the only one; and of counts.
+-- least or, in a right leaf, the only one.
 use mathlib.Core.Path.{_≡_, refl, sym, _∙_}
-use mathlib.Core.Bool.{Bool, true, false, cond, not}
+use mathlib.Core.Bool.{Bool, true, false, not}
 use mathlib.Core.Logic.{_≢_}
 use Prim.Native.Nat.{ℕ, zero, suc, _+_, _≤_, _<_}
 use native.Mathlib.Decide.{ℕ-discrete, decLt}
@@ -11,7 +11,7 @@ use lib.Dec.{leb, eqb}
 use Rattle.words.specs.Bools.{both, both-true, by-test, differ, never, not-so}
 use Rattle.header.specs.Header.{fingerprintOf}
 use Rattle.leaf.specs.Leaf.{Leaf, Taken, Right}
-use Rattle.leaf.specs.Search.{pickSlot, lowest, holdsKey, slotOf, lowestVacant, nearer, closer, closest, leastFrom, countTo}
+use Rattle.leaf.specs.Search.{pickSlot, lowest, holdsKey, slotOf, lowestVacant, nearer, closer, closest, leastFrom}
 use Rattle.leaf.specs.declared.search.Slot.{Slot}
 use Rattle.leaf.specs.declared.search.Slot.the-variants.{At, Missing}
 
@@ -209,52 +209,3 @@ module _ (L : Leaf) (k : ℕ) where
   pub least-none : leastFrom L k ≡ Missing → (t : ℕ) → t < L .size → Taken L t → L .key t < k
   unfolding leastFrom
   least-none e = rw e at (answers (L .size))
-
--- ---- counts
-
-bit-most : (b : Bool) → cond b 1 0 ≤ 1
-bit-most b = by-test (λ t. cond t 1 0 ≤ 1) b (λ e. omega arith) (λ e. omega arith)
-
-module _ (f : ℕ → Bool) where
-  pub count-most : (n : ℕ) → countTo f n ≤ n
-  unfolding countTo
-  count-most zero = omega arith
-  count-most (suc n) = omega (arith, count-most n, bit-most (f n))
-
-  -- none passes, or some does
-  pub count-none : (n : ℕ) → countTo f n ≡ 0 → (s : ℕ) → s < n → f s ≡ false
-  unfolding countTo
-  count-none zero e s h = absurd (omega arith)
-  count-none (suc n) e s h = by-test (λ b. f n ≡ b → countTo f n + cond b 1 0 ≡ 0 → f s ≡ false) (f n)
-      (λ t q z. absurd (omega arith))
-      (λ t q z. elim (ℕ-discrete s n) [ yes p ↦ rw p q | no ne ↦ count-none n (omega arith) s (omega arith) ])
-      refl
-      e
-
-  pub count-zero : (n : ℕ) → ((s : ℕ) → s < n → f s ≡ false) → countTo f n ≡ 0
-  unfolding countTo
-  count-zero zero h = refl
-  count-zero (suc n) h = rw (count-zero n (λ s b. h s (omega arith)), h n (omega arith))
-
-  pub count-some : (n : ℕ) → 0 < countTo f n → (s : ℕ) × (s < n) × (f s ≡ true)
-  unfolding countTo
-  count-some zero h = absurd (omega arith)
-  count-some (suc n) h = by-test (λ b. f n ≡ b → 0 < countTo f n + cond b 1 0 → (s : ℕ) × (s < suc n) × (f s ≡ true)) (f n)
-      (λ t q z. (n, omega arith, q))
-      (λ t q z. let r = count-some n (omega arith) in (r .0, omega (arith, r .1), r .2))
-      refl
-      h
-
-  pub count-all : (n : ℕ) → ((s : ℕ) → s < n → f s ≡ true) → countTo f n ≡ n
-  unfolding countTo
-  count-all zero h = refl
-  count-all (suc n) h = rw (h n (omega arith)) (omega (arith, count-all n (λ s b. h s (omega arith))))
-
-  pub count-less : (n s : ℕ) → s < n → f s ≡ false → countTo f n < n
-  unfolding countTo
-  count-less zero s b e = absurd (omega arith)
-  count-less (suc n) s b e =
-      elim (ℕ-discrete s n) [
-        | yes q ↦ let z : f n ≡ false = rw q at e in rw z (omega (arith, count-most n))
-        | no q ↦ omega (arith, count-less n s (omega arith) e, bit-most (f n))
-      ]

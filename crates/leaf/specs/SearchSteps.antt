@@ -12,7 +12,7 @@ use Rattle.words.specs.WordLaws.{Bytes, word-small}
 use Rattle.header.specs.Header.{headAt, altIn, isLocked, isOccupied, fingerprintIn, fingerprintOf}
 use Rattle.leaf.specs.Leaf.{Leaf, occIn, leafIn}
 use Rattle.leaf.specs.LeafLaws.{occ-in}
-use Rattle.leaf.specs.Search.{pickSlot, lowest, holdsKey, slotOf, countTo}
+use Rattle.leaf.specs.Search.{pickSlot, lowest, holdsKey, slotOf}
 use Rattle.leaf.specs.declared.search.Slot.the-variants.{At, Missing}
 
 -- ---- what is read of the bytes
@@ -82,15 +82,6 @@ module _ (f : ℕ → Bool) (n i : ℕ) where
 
   pub lowest-passed : i < n → f i ≡ false → lowest f (n - i) i ≡ lowest f (n - (i + 1)) (i + 1)
   lowest-passed h e = lowest-step h ∙ rw e
-
-module _ (f : ℕ → Bool) (n s : ℕ) (so-far : n ≡ countTo f s) where
-  pub count-hit : f s ≡ true → n + 1 ≡ countTo f (s + 1)
-  unfolding countTo
-  count-hit e = rw (add-one s, so-far, e)
-
-  pub count-miss : f s ≡ false → n ≡ countTo f (s + 1)
-  unfolding countTo
-  count-miss e = rw (add-one s, so-far, e) (omega arith)
 
 -- ---- the whole of the loop, over the 14 slots
 

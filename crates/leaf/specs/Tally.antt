@@ -1,12 +1,13 @@
 -- What one pass over a leaf's slots tells.
 use mathlib.Core.Path.{_≡_}
-use mathlib.Core.Bool.{Bool, true, false, cond, not}
+use mathlib.Core.Bool.{Bool, false, cond, not}
 use Prim.Native.Nat.{ℕ, zero, suc, min, max}
 use lib.Dec.{leb, eqb}
 use Rattle.words.specs.Bools.{both}
+use Rattle.words.specs.Below.{anyBelow, countBelow}
 use Rattle.header.specs.Header.{fingerprintOf}
 use Rattle.leaf.specs.Leaf.{Leaf}
-use Rattle.leaf.specs.Search.{countTo, count}
+use Rattle.leaf.specs.Search.{count}
 use Rattle.leaf.specs.declared.tally.Tally.{Tally}
 
 -- slot s breaks "each occupied slot has its key's fingerprint"
@@ -27,24 +28,19 @@ unfoldable pub mostTo : Leaf → ℕ → ℕ
 mostTo L zero = 0
 mostTo L (suc n) = cond (L .occ n) (max (mostTo L n) (L .key n)) (mostTo L n)
 
--- some of the first n passes a test
-unfoldable pub someTo : (ℕ → Bool) → ℕ → Bool
-someTo f zero = false
-someTo f (suc n) = cond (f n) true (someTo f n)
-
 -- slots s and t break "all keys in a leaf differ": t is occupied, with the fingerprint and the key of s
 unfoldable pub shares : Leaf → ℕ → ℕ → Bool
 shares L s t = both (L .occ t) (both (eqb (L .fp t) (L .fp s)) (eqb (L .key t) (L .key s)))
 
 unfoldable pub twinAt : Leaf → ℕ → Bool
-twinAt L s = both (L .occ s) (someTo (shares L s) s)
+twinAt L s = both (L .occ s) (anyBelow (shares L s) s)
 
 unfoldable pub twins : Leaf → Bool
-twins L = someTo (twinAt L) (L .size)
+twins L = anyBelow (twinAt L) (L .size)
 
 pub record Tells (L : Leaf) (t : Tally) : Type 0 where
   pub entries : t .entries ≡ count L
-  pub wrong : t .wrong ≡ countTo (wrongAt L) (L .size)
+  pub wrong : t .wrong ≡ countBelow (wrongAt L) (L .size)
   pub least : t .least ≡ leastTo L (L .size)
   pub most : t .most ≡ mostTo L (L .size)
   -- no fingerprint came twice, so no key did

@@ -8,17 +8,18 @@ use native.Mathlib.Omega.{arith}
 use borrow.Author.Tests.{eq-eqb, ne-eqb, eqb-true, eqb-false, leb-true, leb-false, le-leb, lt-leb, not-true, not-false}
 use lib.Dec.{leb, eqb}
 use Rattle.words.specs.Bools.{both, both-true, by-test, differ, not-so}
+use Rattle.words.specs.Below.{anyBelow, countBelow}
+use Rattle.words.specs.BelowLaws.{any-make, any-none, none-make, count-zero, count-none, count-nth}
 use Rattle.header.specs.Header.{fingerprintOf}
 use Rattle.leaf.specs.Leaf.{Leaf, Taken, Right}
-use Rattle.leaf.specs.Search.{leastFrom, keyOr0, smallestOf, countTo, count}
-use Rattle.leaf.specs.SearchLaws.{least-at, least-none as no-least, count-none, count-zero, count-some}
-use Rattle.leaf.specs.Tally.{wrongAt, atMost, leastTo, mostTo, someTo, shares, twinAt, twins}
-use Rattle.leaf.specs.TallySteps.{some-none, none-some, some-yes}
+use Rattle.leaf.specs.Search.{leastFrom, keyOr0, smallestOf, count}
+use Rattle.leaf.specs.SearchLaws.{least-at, least-none as no-least}
+use Rattle.leaf.specs.Tally.{wrongAt, atMost, leastTo, mostTo, shares, twinAt, twins}
 use Rattle.leaf.specs.declared.search.Slot.{Slot}
 use Rattle.leaf.specs.declared.search.Slot.the-variants.{At, Missing}
 
 module _ (L : Leaf) (inside : (s : ℕ) → Taken L s → s < L .size) where
-  prints : countTo (wrongAt L) (L .size) ≡ 0 → (s : ℕ) → Taken L s → L .fp s ≡ fingerprintOf (L .key s)
+  prints : countBelow (wrongAt L) (L .size) ≡ 0 → (s : ℕ) → Taken L s → L .fp s ≡ fingerprintOf (L .key s)
   unfolding wrongAt
   prints e s o =
       eqb-true (L .fp s) (fingerprintOf (L .key s))
@@ -31,10 +32,10 @@ module _ (L : Leaf) (inside : (s : ℕ) → Taken L s → s < L .size) where
   lower p e s t b o q k =
       let f : L .fp t ≡ L .fp s = p t q ∙ ap fingerprintOf k ∙ sym (p s o) in
       let h : shares L s t ≡ true = rw (q, eq-eqb (L .fp t) (L .fp s) f, eq-eqb (L .key t) (L .key s) k) in
-      let w : twinAt L s ≡ true = rw (o, some-yes (shares L s) s t b h) in
-      differ (sym w ∙ none-some (twinAt L) (L .size) e s (inside s o))
+      let w : twinAt L s ≡ true = rw (o, any-make (shares L s) s t b h) in
+      differ (sym w ∙ any-none (twinAt L) (L .size) s e (inside s o))
 
-  pub tally-right : countTo (wrongAt L) (L .size) ≡ 0 → twins L ≡ false → Right L
+  pub tally-right : countBelow (wrongAt L) (L .size) ≡ 0 → twins L ≡ false → Right L
   tally-right e d = record {
     inside = inside;
     prints = prints e;
@@ -48,19 +49,18 @@ module _ (L : Leaf) (inside : (s : ℕ) → Taken L s → s < L .size) where
   }
 
 module _ (L : Leaf) (r : Right L) where
-  pub right-prints : countTo (wrongAt L) (L .size) ≡ 0
+  pub right-prints : countBelow (wrongAt L) (L .size) ≡ 0
   unfolding wrongAt
   right-prints = count-zero (wrongAt L) (L .size)
-      (λ s b. by-test (λ o. L .occ s ≡ o → both o (not (eqb (L .fp s) (fingerprintOf (L .key s)))) ≡ false) (L .occ s)
-      (λ x o. ap not (eq-eqb (L .fp s) (fingerprintOf (L .key s)) (r .prints s o)))
-      (λ x o. refl)
-      refl)
+      (λ s b. by-test (λ o. both o (not (eqb (L .fp s) (fingerprintOf (L .key s)))) ≡ false) (L .occ s)
+      (λ o. ap not (eq-eqb (L .fp s) (fingerprintOf (L .key s)) (r .prints s o)))
+      (λ o. refl))
 
   pub right-twins : twins L ≡ false
   unfolding twins twinAt shares
-  right-twins = some-none (twinAt L) (L .size) (λ s b. not-so (twinAt L s) (λ e.
-      let p = both-true (L .occ s) (someTo (shares L s) s) e in
-      differ (sym (p .1) ∙ some-none (shares L s) s (λ t c. not-so (shares L s t) (λ f.
+  right-twins = none-make (twinAt L) (L .size) (λ s b. not-so (twinAt L s) (λ e.
+      let p = both-true (L .occ s) (anyBelow (shares L s) s) e in
+      differ (sym (p .1) ∙ none-make (shares L s) s (λ t c. not-so (shares L s t) (λ f.
       let q = both-true (L .occ t) (both (eqb (L .fp t) (L .fp s)) (eqb (L .key t) (L .key s))) f in
       let k = both-true (eqb (L .fp t) (L .fp s)) (eqb (L .key t) (L .key s)) (q .1) in
       let x : t ≡ s = r .differ t s (q .0) (p .0) (eqb-true (L .key t) (L .key s) (k .1)) in omega arith)))))
@@ -68,21 +68,20 @@ module _ (L : Leaf) (r : Right L) where
 -- ---- keys at most x, and the largest key
 
 module _ (L : Leaf) (x n : ℕ) where
-  pub none-at-most : countTo (atMost L x) n ≡ 0 → (s : ℕ) → s < n → Taken L s → x < L .key s
+  pub none-at-most : countBelow (atMost L x) n ≡ 0 → (s : ℕ) → s < n → Taken L s → x < L .key s
   unfolding atMost
   none-at-most e s b o = leb-false (L .key s) x (sym (rw o) ∙ count-none (atMost L x) n e s b)
 
-  pub all-above : ((s : ℕ) → s < n → Taken L s → x < L .key s) → countTo (atMost L x) n ≡ 0
+  pub all-above : ((s : ℕ) → s < n → Taken L s → x < L .key s) → countBelow (atMost L x) n ≡ 0
   unfolding atMost
-  all-above h = count-zero (atMost L x) n (λ s b. by-test (λ o. L .occ s ≡ o → both o (leb (L .key s) x) ≡ false) (L .occ s)
-      (λ y o. lt-leb (L .key s) x (h s b o))
-      (λ y o. refl)
-      refl)
+  all-above h = count-zero (atMost L x) n (λ s b. by-test (λ o. both o (leb (L .key s) x) ≡ false) (L .occ s)
+      (λ o. lt-leb (L .key s) x (h s b o))
+      (λ o. refl))
 
-  pub some-at-most : 0 < countTo (atMost L x) n → (s : ℕ) × (s < n) × Taken L s × (L .key s ≤ x)
+  pub some-at-most : 0 < countBelow (atMost L x) n → (s : ℕ) × (s < n) × Taken L s × (L .key s ≤ x)
   unfolding atMost
   some-at-most h =
-      let r = count-some (atMost L x) n h in
+      let r = count-nth (atMost L x) n 0 h in
       let p = both-true (L .occ (r .0)) (leb (L .key (r .0)) x) (r .2) in
       (r .0, r .1, p .0, leb-true (L .key (r .0)) x (p .1))
 
@@ -90,28 +89,25 @@ module _ (L : Leaf) where
   pub most-above : (n s : ℕ) → s < n → Taken L s → L .key s ≤ mostTo L n
   unfolding mostTo
   most-above zero s b o = absurd (omega arith)
-  most-above (suc n) s b o = by-test (λ t. L .occ n ≡ t → L .key s ≤ cond t (max (mostTo L n) (L .key n)) (mostTo L n)) (L .occ n)
-      (λ x q. elim (ℕ-discrete s n) [ yes e ↦ rw e (omega arith) | no ne ↦ omega (arith, most-above n s (omega arith) o) ])
-      (λ x q. elim (ℕ-discrete s n) [ yes e ↦ differ (sym o ∙ ap (L .occ) e ∙ q) | no ne ↦ most-above n s (omega arith) o ])
-      refl
+  most-above (suc n) s b o = by-test (λ t. L .key s ≤ cond t (max (mostTo L n) (L .key n)) (mostTo L n)) (L .occ n)
+      (λ q. elim (ℕ-discrete s n) [ yes e ↦ rw e (omega arith) | no ne ↦ omega (arith, most-above n s (omega arith) o) ])
+      (λ q. elim (ℕ-discrete s n) [ yes e ↦ differ (sym o ∙ ap (L .occ) e ∙ q) | no ne ↦ most-above n s (omega arith) o ])
 
   most-or : (n : ℕ) → (mostTo L n ≡ 0) ⊎ ((t : ℕ) × (t < n) × Taken L t × (L .key t ≡ mostTo L n))
   unfolding mostTo
   most-or zero = inl refl
   most-or (suc n) = by-test
-      (λ x. L .occ n ≡ x
-      → (cond x (max (mostTo L n) (L .key n)) (mostTo L n) ≡ 0)
+      (λ x. (cond x (max (mostTo L n) (L .key n)) (mostTo L n) ≡ 0)
       ⊎ ((t : ℕ) × (t < suc n) × Taken L t × (L .key t ≡ cond x (max (mostTo L n) (L .key n)) (mostTo L n))))
       (L .occ n)
-      (λ x o. elim (decLt (L .key n) (mostTo L n)) [
+      (λ o. elim (decLt (L .key n) (mostTo L n)) [
         | yes b ↦ elim (most-or n) [
           | inl z ↦ absurd (omega arith)
           | inr f ↦ inr (f .0, omega (arith, f .1), f .2, omega (arith, f .3))
         ]
         | no b ↦ inr (n, omega arith, o, omega arith)
       ])
-      (λ x o. elim (most-or n) [ inl z ↦ inl z | inr f ↦ inr (f .0, omega (arith, f .1), f .2, f .3) ])
-      refl
+      (λ o. elim (most-or n) [ inl z ↦ inl z | inr f ↦ inr (f .0, omega (arith, f .1), f .2, f .3) ])
 
   -- it is the key of an occupied slot, where there is one
   pub most-is : (n s : ℕ) → s < n → Taken L s → (t : ℕ) × (t < n) × Taken L t × (L .key t ≡ mostTo L n)
@@ -122,11 +118,11 @@ module _ (L : Leaf) where
 plus-0 : (n : ℕ) → n + 0 ≡ n
 plus-0 n = omega arith
 
-least-none : (L : Leaf) (n : ℕ) → countTo (L .occ) n ≡ 0 → leastTo L n ≡ 18446744073709551615
-unfolding countTo leastTo
+least-none : (L : Leaf) (n : ℕ) → countBelow (L .occ) n ≡ 0 → leastTo L n ≡ 18446744073709551615
+unfolding countBelow leastTo
 least-none L zero e = refl
 least-none L (suc n) e = by-test
-    (λ o. countTo (L .occ) n + cond o 1 0 ≡ 0 → cond o (min (leastTo L n) (L .key n)) (leastTo L n) ≡ 18446744073709551615)
+    (λ o. countBelow (L .occ) n + cond o 1 0 ≡ 0 → cond o (min (leastTo L n) (L .key n)) (leastTo L n) ≡ 18446744073709551615)
     (L .occ n)
     (λ o z. absurd (omega arith))
     (λ o z. least-none L n (omega arith))
@@ -134,32 +130,31 @@ least-none L (suc n) e = by-test
 
 -- some key is at most x exactly when there is a smallest one and it is
 pub least-reaches : (L : Leaf) (n x : ℕ) → ((s : ℕ) → L .key s ≤ 18446744073709551615)
-    → both (not (eqb (countTo (L .occ) n) 0)) (leb (leastTo L n) x) ≡ not (eqb (countTo (atMost L x) n) 0)
-unfolding countTo leastTo atMost
+    → both (not (eqb (countBelow (L .occ) n) 0)) (leb (leastTo L n) x) ≡ not (eqb (countBelow (atMost L x) n) 0)
+unfolding countBelow leastTo atMost
 least-reaches L zero x b = refl
 least-reaches L (suc n) x b = by-test
     (λ o. both (not (eqb (all + cond o 1 0) 0)) (leb (cond o (min least key) least) x) ≡ not
     (eqb (low + cond (both o (leb key x)) 1 0) 0))
     (L .occ n)
     (λ o. by-test
-    (λ y. leb key x ≡ y → both (not (eqb (all + 1) 0)) (leb (min least key) x) ≡ not (eqb (low + cond y 1 0) 0))
+    (λ y. both (not (eqb (all + 1) 0)) (leb (min least key) x) ≡ not (eqb (low + cond y 1 0) 0))
     (leb key x)
-    (λ d q. rw (
+    (λ q. rw (
       ne-eqb (all + 1) 0 (λ z. omega arith),
       le-leb (min least key) x (omega (arith, leb-true key x q)),
       ne-eqb
           (low + 1) 0 (λ z. omega arith),
     ))
-    (λ d q. rw (ne-eqb (all + 1) 0 (λ z. omega arith), plus-0 low)
-    (other (leb-false key x q) ∙ some (leb-false key x q) ∙ least-reaches L n x b))
-    refl)
+    (λ q. rw (ne-eqb (all + 1) 0 (λ z. omega arith), plus-0 low)
+    (other (leb-false key x q) ∙ some (leb-false key x q) ∙ least-reaches L n x b)))
     (λ o. rw (plus-0 all, plus-0 low) (least-reaches L n x b))
   where
     all : ℕ
-    all = countTo (L .occ) n
+    all = countBelow (L .occ) n
 
     low : ℕ
-    low = countTo (atMost L x) n
+    low = countBelow (atMost L x) n
 
     least : ℕ
     least = leastTo L n
@@ -168,16 +163,14 @@ least-reaches L (suc n) x b = by-test
     key = L .key n
 
     other : x < key → leb (min least key) x ≡ leb least x
-    other g = by-test (λ y. leb least x ≡ y → leb (min least key) x ≡ y) (leb least x)
-        (λ d q. le-leb (min least key) x (omega (arith, leb-true least x q)))
-        (λ d q. lt-leb (min least key) x (omega (arith, leb-false least x q)))
-        refl
+    other g = by-test (λ y. leb (min least key) x ≡ y) (leb least x)
+        (λ q. le-leb (min least key) x (omega (arith, leb-true least x q)))
+        (λ q. lt-leb (min least key) x (omega (arith, leb-false least x q)))
 
     some : x < key → leb least x ≡ both (not (eqb all 0)) (leb least x)
-    some g = by-test (λ y. eqb all 0 ≡ y → leb least x ≡ both (not y) (leb least x)) (eqb all 0)
-        (λ d q. lt-leb least x (omega (arith, least-none L n (eqb-true all 0 q), b n)))
-        (λ d q. refl)
-        refl
+    some g = by-test (λ y. leb least x ≡ both (not y) (leb least x)) (eqb all 0)
+        (λ q. lt-leb least x (omega (arith, least-none L n (eqb-true all 0 q), b n)))
+        (λ q. refl)
 
 -- the smallest key by what a pass has: 0 where there is none
 pub smallest-is : (L : Leaf) → ((s : ℕ) → L .key s ≤ 18446744073709551615)
@@ -186,13 +179,13 @@ unfolding smallestOf count
 smallest-is L b = go (leastFrom L 0) refl
   where
     all : ℕ
-    all = countTo (L .occ) (L .size)
+    all = countBelow (L .occ) (L .size)
 
     least : ℕ
     least = leastTo L (L .size)
 
     low : ℕ → ℕ
-    low x = countTo (atMost L x) (L .size)
+    low x = countBelow (atMost L x) (L .size)
 
     go : (x : Slot) → leastFrom L 0 ≡ x → cond (eqb all 0) 0 least ≡ keyOr0 L x
     go Missing e = rw (eq-eqb all 0 (count-zero (L .occ) (L .size) (λ s c. not-so (L .occ s) (λ o.

@@ -1,6 +1,6 @@
 -- One turn of the pass over the slots, and of the search for twins.
 use mathlib.Core.Path.{_≡_, refl, sym, ap, subst, _∙_}
-use mathlib.Core.Bool.{Bool, true, false, cond, not}
+use mathlib.Core.Bool.{true, false, cond, not}
 use mathlib.Core.List.{List}
 use mathlib.Core.Logic.{_≢_}
 use Prim.Native.Nat.{ℕ, zero, suc, _+_, _*_, _/_, _%_, _^_, _≤_, _<_, min, max}
@@ -13,39 +13,14 @@ use lib.Dec.{eqb}
 use lib.ListN.{length, getD, set}
 use lib.Pow.{pow-mono}
 use lib.Seq.{getD-set-same, getD-set-other}
-use Rattle.words.specs.Bools.{both, both-true, by-test, differ, not-so}
+use Rattle.words.specs.Bools.{bit-most, both, both-true, differ, not-so, or-none}
+use Rattle.words.specs.Below.{anyBelow, countBelow}
+use Rattle.words.specs.BelowLaws.{any-make, none-make, count-most}
 use Rattle.header.specs.Header.{fingerprintOf}
 use Rattle.leaf.specs.Leaf.{Leaf, Taken, leafIn}
-use Rattle.leaf.specs.Search.{countTo, count}
-use Rattle.leaf.specs.SearchLaws.{count-most}
-use Rattle.leaf.specs.Tally.{wrongAt, leastTo, mostTo, someTo, shares, twinAt, twins, Tells}
+use Rattle.leaf.specs.Search.{count}
+use Rattle.leaf.specs.Tally.{wrongAt, leastTo, mostTo, shares, twinAt, twins, Tells}
 use Rattle.leaf.specs.declared.tally.Tally.{Tally}
-
--- ---- some of the first n passes a test
-
-module _ (f : ℕ → Bool) where
-  pub some-none : (n : ℕ) → ((t : ℕ) → t < n → f t ≡ false) → someTo f n ≡ false
-  unfolding someTo
-  some-none zero h = refl
-  some-none (suc n) h = rw (h n (omega arith)) (some-none n (λ t b. h t (omega arith)))
-
-  pub some-next : (n : ℕ) → someTo f n ≡ false → f n ≡ false → someTo f (suc n) ≡ false
-  unfolding someTo
-  some-next n e g = rw g e
-
-  pub none-some : (n : ℕ) → someTo f n ≡ false → (t : ℕ) → t < n → f t ≡ false
-  unfolding someTo
-  none-some zero e t b = absurd (omega arith)
-  none-some (suc n) e t b =
-      by-test (λ x. f n ≡ x → cond x true (someTo f n) ≡ false → f t ≡ false) (f n)
-      (λ x q z. differ z)
-      (λ x q z. elim (ℕ-discrete t n) [ yes p ↦ rw p q | no ne ↦ none-some n z t (omega arith) ])
-      refl
-      e
-
-  pub some-yes : (n t : ℕ) → t < n → f t ≡ true → someTo f n ≡ true
-  some-yes n t b e =
-      by-test (λ x. someTo f n ≡ x → someTo f n ≡ true) (someTo f n) (λ x q. q) (λ x q. differ (sym e ∙ none-some n q t b)) refl
 
 -- ---- the pass
 
@@ -92,10 +67,10 @@ abbrev pub Hits : Leaf → ℕ → ℕ → Type 0
 Hits L zero h = Unit {0}
 Hits L (suc n) h = (h % 2 ≡ 0 → twinAt L n ≡ false) × Hits L n (h / 2)
 
-hits-none : (L : Leaf) (n : ℕ) → Hits L n 0 → someTo (twinAt L) n ≡ false
-unfolding someTo
+hits-none : (L : Leaf) (n : ℕ) → Hits L n 0 → anyBelow (twinAt L) n ≡ false
+unfolding anyBelow
 hits-none L zero h = refl
-hits-none L (suc n) h = rw (h .0 refl) (hits-none L n (h .1))
+hits-none L (suc n) h = rw (hits-none L n (h .1)) (h .0 refl)
 
 hits-next : (L : Leaf) (n h b : ℕ) → b ≤ 1 → Hits L n h → (b ≡ 0 → twinAt L n ≡ false) → Hits L (suc n) (2 * h + b)
 hits-next L n h b most so-far lone =
@@ -104,8 +79,8 @@ hits-next L n h b most so-far lone =
 
 -- what the tally tells of the first n slots
 pub record TellsTo (L : Leaf) (n : ℕ) (t : Tally) : Type 0 where
-  pub entries : t .entries ≡ countTo (L .occ) n
-  pub wrong : t .wrong ≡ countTo (wrongAt L) n
+  pub entries : t .entries ≡ countBelow (L .occ) n
+  pub wrong : t .wrong ≡ countBelow (wrongAt L) n
   pub least : t .least ≡ leastTo L n
   pub most : t .most ≡ mostTo L n
   pub few : t .hits < 2 ^ n
@@ -117,7 +92,7 @@ Stamped L number n stamps = (t : ℕ) → t < n → Taken L t → getD stamps (L
 
 module _ (L : Leaf) where
   pub tells-none : TellsTo L 0 (record { entries = 0; wrong = 0; least = 18446744073709551615; most = 0; hits = 0 })
-  unfolding countTo leastTo mostTo someTo
+  unfolding countBelow leastTo mostTo
   tells-none = record { entries = refl; wrong = refl; least = refl; most = refl; few = omega arith; alone = tt }
 
   pub tells-few : (s : ℕ) (t : Tally) → s < 14 → TellsTo L s t → Few t
@@ -128,10 +103,10 @@ module _ (L : Leaf) where
   }
 
   -- a slot whose fingerprint bore no stamp of this leaf has no twin below
-  unstamped : (s number : ℕ) (stamps : List ℕ) → Stamped L number s stamps → getD stamps (L .fp s) 0 ≢ number → someTo
+  unstamped : (s number : ℕ) (stamps : List ℕ) → Stamped L number s stamps → getD stamps (L .fp s) 0 ≢ number → anyBelow
       (shares L s) s ≡ false
   unfolding shares
-  unstamped s number stamps h ne = some-none (shares L s) s (λ t b. not-so (shares L s t) (λ e.
+  unstamped s number stamps h ne = none-make (shares L s) s (λ t b. not-so (shares L s t) (λ e.
       let r = both-true (L .occ t) (both (eqb (L .fp t) (L .fp s)) (eqb (L .key t) (L .key s))) e in
       let q = both-true (eqb (L .fp t) (L .fp s)) (eqb (L .key t) (L .key s)) (r .1) in
       ne (ap (λ (p : ℕ). getD stamps p 0) (sym (eqb-true (L .fp t) (L .fp s) (q .0))) ∙ h t b (r .0))))
@@ -141,7 +116,7 @@ module _ (L : Leaf) where
     pub tells-taken : (print key hit : ℕ) (r : Tally) → Stamped L number s stamps → Taken L s → print ≡ L .fp s → key ≡ L .key s
         → hit ≡ cond (eqb (getD stamps print 0) number) 1 0 → r ≡ noted print key hit t → TellsTo L
         (s + 1) r
-    unfolding countTo wrongAt leastTo mostTo twinAt
+    unfolding countBelow wrongAt leastTo mostTo twinAt
     tells-taken print key hit r h o ep ek eh er = rw (er, ek, ep, add-one s) (record {
       entries = rw (so-far .entries, o);
       wrong = rw (so-far .wrong, o);
@@ -152,7 +127,7 @@ module _ (L : Leaf) where
     })
       where
         hit-most : hit ≤ 1
-        hit-most = rw eh (by-test (λ b. cond b 1 0 ≤ 1) (eqb (getD stamps print 0) number) (λ e. omega arith) (λ e. omega arith))
+        hit-most = rw eh (bit-most (eqb (getD stamps print 0) number))
 
         lone : hit ≡ 0 → twinAt L s ≡ false
         lone z = rw o (unstamped s number stamps h (λ e.
@@ -161,10 +136,10 @@ module _ (L : Leaf) where
 
     -- .. and a vacant one passed over
     pub tells-vacant : (r : Tally) → L .occ s ≡ false → r ≡ passed t → TellsTo L (s + 1) r
-    unfolding countTo wrongAt leastTo mostTo twinAt
+    unfolding countBelow wrongAt leastTo mostTo twinAt
     tells-vacant r o er = rw (er, add-one s) (record {
-      entries = rw o (so-far .entries ∙ plus-0 (countTo (L .occ) s));
-      wrong = rw o (so-far .wrong ∙ plus-0 (countTo (wrongAt L) s));
+      entries = rw o (so-far .entries ∙ plus-0 (countBelow (L .occ) s));
+      wrong = rw o (so-far .wrong ∙ plus-0 (countBelow (wrongAt L) s));
       least = rw o (so-far .least);
       most = rw o (so-far .most);
       few = omega (arith, so-far .few, pow-suc 2 s);
@@ -224,9 +199,9 @@ module _ (L : Leaf) (s t : ℕ) where
 module _ (L : Leaf) (s : ℕ) where
   pub twin-found : (t : ℕ) → L .occ s ≡ true → t < s → shares L s t ≡ true → true ≡ twinAt L s
   unfolding twinAt
-  twin-found t o b e = rw (o, some-yes (shares L s) s t b e)
+  twin-found t o b e = rw (o, any-make (shares L s) s t b e)
 
-  pub twin-none : L .occ s ≡ true → someTo (shares L s) s ≡ false → false ≡ twinAt L s
+  pub twin-none : L .occ s ≡ true → anyBelow (shares L s) s ≡ false → false ≡ twinAt L s
   unfolding twinAt
   twin-none o e = rw (o, e)
 
@@ -236,21 +211,21 @@ module _ (L : Leaf) (s : ℕ) where
 
 pub twins-found : (l : List ℕ) (s : ℕ) → s < 14 → twinAt (leafIn l) s ≡ true → true ≡ twins (leafIn l)
 unfolding twins leafIn
-twins-found l s b e = sym (some-yes (twinAt (leafIn l)) 14 s b e)
+twins-found l s b e = sym (any-make (twinAt (leafIn l)) 14 s b e)
 
 -- the first n slots, of which the hits are told, have what twins there are
 pub record Left (L : Leaf) (n hits : ℕ) : Type 0 where
   pub told : Hits L n hits
-  pub rest : someTo (twinAt L) n ≡ twins L
+  pub rest : anyBelow (twinAt L) n ≡ twins L
 
 pub left-whole : (l : List ℕ) (h : ℕ) → Hits (leafIn l) 14 h → Left (leafIn l) 14 h
 unfolding twins leafIn
 left-whole l h k = record { told = k; rest = refl }
 
 pub left-next : (L : Leaf) (n h : ℕ) → Left L (suc n) h → twinAt L n ≡ false → Left L n (h / 2)
-unfolding someTo
-left-next L n h k e = record { told = k .told .1; rest = sym (rw e refl) ∙ k .rest }
+unfolding anyBelow
+left-next L n h k e = record { told = k .told .1; rest = sym (rw e (or-none (anyBelow (twinAt L) n))) ∙ k .rest }
 
 pub left-none : (L : Leaf) (n h : ℕ) → n ≡ 0 → Left L n h → false ≡ twins L
-unfolding someTo
-left-none L n h z k = let r : someTo (twinAt L) 0 ≡ twins L = rw z at (k .rest) in r
+unfolding anyBelow
+left-none L n h z k = let r : anyBelow (twinAt L) 0 ≡ twins L = rw z at (k .rest) in r

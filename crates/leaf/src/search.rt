@@ -5,9 +5,10 @@ use header::fingerprint_of;
 ghost use mathlib.Core.Path.{_≡_};
 ghost use Prim.Native.Nat.{_≤_, _<_};
 ghost use lib.ListN.{length};
+ghost use Rattle.words.specs.Below.{countBelow};
 ghost use Rattle.header.specs.Header.{headAt, bitsOf, fingerprintOf};
 ghost use Rattle.leaf.specs.Leaf.{leafIn, occIn};
-ghost use Rattle.leaf.specs.Search.{holdsKey, slotOf, lowestVacant, countTo};
+ghost use Rattle.leaf.specs.Search.{holdsKey, slotOf, lowestVacant};
 
 pub enum Slot {
     At(usize),
@@ -88,7 +89,7 @@ pub fn lowest_vacant(head: Header) -> Slot
 
 // How many slots are occupied.
 pub fn entries(head: Header) -> u64
-    ensures { λ r. ⌜ r ≡ countTo (occIn (bitsOf head)) 14 ⌝ }
+    ensures { λ r. ⌜ r ≡ countBelow (occIn (bitsOf head)) 14 ⌝ }
 {
     let mut n: u64 = 0;
     let mut s = 0;

@@ -7,9 +7,9 @@ use mathlib.Core.Path.{_≡_, sym, ap, _∙_}
 use mathlib.Core.Logic.{_⊎_, inl, inr}
 use lib.ListN.{length, length-append}
 use Rattle.words.specs.Update.{upd}
+use Rattle.words.specs.BelowLaws.{count-from, count-le, count-cong}
 use Rattle.leaf.specs.Leaf.{view}
 use Rattle.steps.specs.declared.Step.{Step}
-use Rattle.steps.specs.BelowLaws.{count-le, count-from, count-cong}
 use Rattle.steps.specs.Model.{line, run, cut, Rule, isLineWrite, lineWrites}
 use Rattle.steps.specs.Settling.{Lawful}
 use Rattle.steps.specs.Section.{Section, section-cut}

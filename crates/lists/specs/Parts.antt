@@ -7,9 +7,9 @@ use mathlib.Core.List.{List, [], _∷_, _++_}
 use mathlib.Core.Path.{_≡_, refl, ap, _∙_}
 use mathlib.Core.Logic.{_⊎_}
 use lib.ListN.{length, length-append}
+use Rattle.words.specs.Below.{countBelow}
 use Rattle.steps.specs.declared.Step.{Step}
 use Rattle.steps.specs.declared.Step.the-variants.{Store as store, WriteBack as writeBack, Fence as fence}
-use Rattle.steps.specs.Below.{countBelow}
 use Rattle.steps.specs.Encoding.{stepsOf}
 use Rattle.steps.specs.Lists.{Each, Into, Still, each-append, count-append, runAll, run-all, run-all-append}
 use Rattle.steps.specs.Model.{line, run, Rule, isLineWrite, isWordWrite}
@@ -35,6 +35,7 @@ IsStore (writeBack k) = ⊥
 IsStore fence = ⊥
 
 pub stores-lines : (l : List Step) → Each IsStore l → linesOf l ≡ 0
+unfolding countBelow
 stores-lines [] a = refl
 stores-lines (store p v ∷ l) a = omega (arith, total-append isLineWrite (store p v ∷ []) l, stores-lines l (a .1))
 stores-lines (writeBack k ∷ l) a = absurd (a .0)
@@ -42,6 +43,7 @@ stores-lines (fence ∷ l) a = absurd (a .0)
 
 -- .. and nothing but word writes
 pub stores-words : (l : List Step) → Each IsStore l → wordsOf l ≡ length l
+unfolding countBelow
 stores-words [] a = refl
 stores-words (store p v ∷ l) a = omega (arith, total-append isWordWrite (store p v ∷ []) l, stores-words l (a .1))
 stores-words (writeBack k ∷ l) a = absurd (a .0)

@@ -42,7 +42,7 @@ use Rattle.lists.specs.Headers.{Fit, two-words, low-small, high-small, w
 use Rattle.lists.specs.Headers.{fit-marked, fit-copied}
 use Rattle.lists.specs.Parts.{parts-each, parts-run, parts-section}
 use Rattle.lists.specs.Beside.{Beside, beside, fits-raise, beside-fit, copied-is, copies-run, copies-each}
-use Rattle.lists.specs.Sizes.{far-lines}
+use Rattle.lists.specs.Sizes.{near-size, far-lines}
 use Rattle.lists.specs.Joined.{section-served}
 use Rattle.lists.specs.SetDel.{block-small, near-block}
 
@@ -85,10 +85,11 @@ module _ (rule : Rule) (L : Lawful rule) (w : ℕ → ℕ) (small : Small w) (N 
         chain = bs;
         sound = c .sound;
         list = put-list (view w) (view (putWords w b s k v low)) N bs bs S k v c;
-        few = omega arith;
+        few = omega (arith, near-size (headIn w b) b s k v .1);
         fair = omega arith;
         pays = omega (
           arith,
+          near-size (headIn w b) b s k v .1,
           phi-put 6 7 (view w) (view (putWords w b s k v low)) N xs b ys S (only-others (put-only w b s k v low slot))
               (put-words-count w N xs b ys S k v target absent s slot free low head),
         );

@@ -9,9 +9,10 @@ use mathlib.Core.Logic.{_≢_}
 use lib.ListN.{length}
 use Rattle.words.specs.Bools.{by-test}
 use Rattle.words.specs.Update.{upd, upd-same, upd-other}
+use Rattle.words.specs.BelowLaws.{count-all}
 use Rattle.leaf.specs.Leaf.{occIn, view}
 use Rattle.leaf.specs.Search.{lowestVacant, count}
-use Rattle.leaf.specs.SearchLaws.{vacant-at, vacant-none, count-all}
+use Rattle.leaf.specs.SearchLaws.{vacant-at, vacant-none}
 use Rattle.leaf.specs.declared.search.Slot.the-variants.{At, Missing}
 use Rattle.steps.specs.declared.Step.{Step}
 use Rattle.steps.specs.declared.Step.the-variants.{Store as store, WriteBack as writeBack, Fence as fence}

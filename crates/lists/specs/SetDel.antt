@@ -10,6 +10,7 @@ use lib.Dec.{eqb, lit<}
 use borrow.Author.Tests.{eqb-true, eqb-false, eq-eqb, ne-eqb, not-true}
 use Rattle.words.specs.Bools.{by-test, both-true, differ}
 use Rattle.words.specs.Update.{upd}
+use Rattle.words.specs.Below.{countBelow}
 use Rattle.header.specs.Header.{whole, altIn, cleared}
 use Rattle.header.specs.HeaderLaws.{alt-lt}
 use Rattle.leaf.specs.Leaf.{Leaf, Taken, block, view}
@@ -44,6 +45,7 @@ module _ (rule : Rule) (L : Lawful rule) (w : ℕ → ℕ) (N : ℕ) (bs : List 
   one-served : (p v : ℕ) → p < 32 * N → v < 2 ^ 64 → (cs : List ℕ) → Sound (view (upd w p v)) N cs
       → phi (view (upd w p v)) cs ≤ phi (view w) bs
       → Served rule w N bs (oneStore p v) (listOf (view (upd w p v)) cs) perChange
+  unfolding countBelow
   one-served p v inside small cs sound less =
       section-served rule L w N bs S (oneStore p v) (listOf (view (upd w p v)) cs) perChange
       ((inside, small), (omega arith, (tt, tt)))

@@ -9,6 +9,7 @@ use mathlib.Core.Path.{_≡_, refl, _∙_}
 use lib.ListN.{length, length-append, length-drop}
 use borrow.Author.Tests.{lt-ltb, le-ltb}
 use Rattle.words.specs.Bools.{by-test}
+use Rattle.words.specs.Below.{countBelow}
 use Rattle.leaf.specs.Leaf.{Leaf, occIn, view}
 use Rattle.leaf.specs.Search.{lowestVacant}
 use Rattle.leaf.specs.SearchLaws.{vacant-at}
@@ -39,11 +40,11 @@ by-slot P Missing f g = g refl
 -- ---- set and del
 
 pub set-size : (b s v : ℕ) → (length (setList b s v) ≡ 3) × (linesOf (setList b s v) ≡ 1)
-unfolding setList
+unfolding setList countBelow
 set-size b s v = (refl, refl)
 
 pub del-size : (w : ℕ → ℕ) (p b s : ℕ) → (length (delList w p b s) ≡ 3) × (linesOf (delList w p b s) ≡ 1)
-unfolding delList unlinkList clearList
+unfolding delList unlinkList clearList countBelow
 del-size w p b s =
     by-test
     (λ t. (length (cond t (unlinkList w p b) (clearList w b s)) ≡ 3) × (linesOf (cond t (unlinkList w p b) (clearList w b s)) ≡ 1))
@@ -54,11 +55,11 @@ del-size w p b s =
 -- ---- plain put
 
 pub near-size : (h b s k v : ℕ) → (length (nearPut h b s k v) ≡ 5) × (linesOf (nearPut h b s k v) ≡ 1)
-unfolding nearPut
+unfolding nearPut countBelow
 near-size h b s k v = (refl, refl)
 
 pub near-words : (h b s k v : ℕ) → wordsOf (nearPut h b s k v) ≡ 3
-unfolding nearPut
+unfolding nearPut countBelow
 near-words h b s k v = refl
 
 copies-stores : (L : Leaf) (b : ℕ) (cs : List Copy) → Each IsStore (copySteps L b cs)
@@ -72,12 +73,14 @@ module _ (h : ℕ) (L : Leaf) (b s k v : ℕ) where
       omega (arith, parts-length (farStores h L b s k v) (farBacks b s) (store q x ∷ []) p y, beside-few h b s L past slot)
 
   lines-any : (q x p y : ℕ) → linesOf (twoParts (farStores h L b s k v) (farBacks b s) (store q x ∷ []) p y) ≡ 2
+  unfolding countBelow
   lines-any q x p y =
       parts-total (farStores h L b s k v) (farBacks b s) (store q x ∷ []) p y isLineWrite
       ∙ omega (arith, stores-lines (farStores h L b s k v) (tt, (tt, copies-stores L b (copiesBeside h s))))
 
   words-any : (q x p y : ℕ)
       → let l = twoParts (farStores h L b s k v) (farBacks b s) (store q x ∷ []) p y in (wordsOf l + 4 ≡ length l) × (8 ≤ length l)
+  unfolding countBelow
   words-any q x p y =
       let f = farStores h L b s k v in
       let n = parts-length f (farBacks b s) (store q x ∷ []) p y in (
@@ -112,7 +115,7 @@ module _ (h : ℕ) (L : Leaf) (b s k v : ℕ) where
       ]
 
 pub plain-size : (h : ℕ) (L : Leaf) (b k v : ℕ) → (length (plainPut h L b k v) ≤ 14) × (linesOf (plainPut h L b k v) ≤ 2)
-unfolding plainPut
+unfolding plainPut countBelow
 plain-size h L b k v =
     by-slot (λ x. (length (putFound x h L b k v) ≤ 14) × (linesOf (putFound x h L b k v) ≤ 2)) (lowestVacant (occIn h) 14)
     (λ s e. at-size h L b s k v (vacant-at (occIn h) 14 s e .0))
@@ -161,7 +164,7 @@ module _ (w : ℕ → ℕ) (b c k v : ℕ) where
   split-stores = each-append IsStore (storesFrom (wordPlace c 0) words) (linkStore w b c) (row-stores (wordPlace c 0) words) (tt, tt)
 
   pub split-lines : linesOf (splitList w b c k v) ≡ 6
-  unfolding splitList
+  unfolding splitList countBelow
   split-lines =
       parts-total (splitStores w b c k v) (splitBacks b c) [] (wordPlace b 0) (lowWord (switchedHead w b)) isLineWrite
       ∙ omega (
@@ -171,7 +174,7 @@ module _ (w : ℕ → ℕ) (b c k v : ℕ) where
 
   -- six line writes, two fences, and the rest are word writes
   pub split-words : wordsOf (splitList w b c k v) + 8 ≡ length (splitList w b c k v)
-  unfolding splitList
+  unfolding splitList countBelow
   split-words =
       omega (
         arith,
@@ -181,6 +184,7 @@ module _ (w : ℕ → ℕ) (b c k v : ℕ) where
       )
 
   below-size : (t : Bool) → (length (putBelow t w b c k v) ≤ 14) × (linesOf (putBelow t w b c k v) ≤ 2)
+  unfolding countBelow
   below-size true = (omega arith, omega arith)
   below-size false = let x = after (splitList w b c k v) w in plain-size (headIn x b) (view x b) b k v
 

@@ -6,10 +6,11 @@ use mathlib.Core.List.{List, [], _∷_, _++_}
 use mathlib.Core.Path.{_≡_, refl}
 use lib.Dec.{eqb}
 use lib.ListN.{getD, set, replicate}
+use Rattle.words.specs.Below.{countBelow, anyBelow}
 use Rattle.header.specs.Fields.{field, patched}
 use Rattle.header.specs.Header.{isOccupied, isLocked, altIn, fingerprintIn, marked, cleared, flipped, xorOfBytes, fingerprintOf}
 use Rattle.leaf.specs.Leaf.{occIn, block, view}
-use Rattle.leaf.specs.Search.{lowest, lowestVacant, closest, leastFrom, countTo, count}
+use Rattle.leaf.specs.Search.{lowest, lowestVacant, closest, leastFrom, count}
 use Rattle.steps.specs.declared.Step.{Step}
 use Rattle.steps.specs.Model.{line, made, rule01, isSettled, settled, cut}
 use Rattle.steps.specs.Encoding.{stepsOf}
@@ -78,7 +79,7 @@ pub record Survived : Type 0 where
 pub survived : Survived
 unfolding putList putAt nearPut farPut copiesBeside filledHead movedSlots goesUp splitList plainPut fullPut delList
     unlinkList clearList isAlone field patched isOccupied isLocked altIn fingerprintIn marked cleared flipped
-    xorOfBytes fingerprintOf occIn block view lowest lowestVacant closest leastFrom countTo count copies slotsFrom
+    xorOfBytes fingerprintOf occIn block view lowest lowestVacant closest leastFrom anyBelow countBelow count copies slotsFrom
     slotsOf entriesAt entriesOf listOf isSettled
 survived = record {
   copies-settled = refl;

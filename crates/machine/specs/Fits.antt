@@ -8,8 +8,8 @@ use lib.ListN.{length}
 use lib.Dec.{ltb, eqb}
 use borrow.Author.Tests.{ltb-true, ltb-false, le-ltb, eqb-true, eqb-false, eq-eqb, ne-eqb, not-false}
 use Rattle.words.specs.Bools.{or-false}
-use Rattle.steps.specs.Below.{anyBelow}
-use Rattle.steps.specs.BelowLaws.{any-none, none-make}
+use Rattle.words.specs.Below.{anyBelow}
+use Rattle.words.specs.BelowLaws.{any-none, none-make}
 use Rattle.steps.specs.Model.{line}
 use Rattle.steps.specs.Settling.{EachStore}
 use Rattle.steps.specs.declared.Step.{Step}

@@ -9,9 +9,9 @@ use mathlib.Core.Logic.{inl, inr}
 use lib.ListN.{length, getD}
 use lib.Dec.{ltb, leb, eqb}
 use borrow.Author.Tests.{ltb-true, lt-ltb, leb-true, le-leb, eqb-true, eq-eqb, ne-eqb}
-use Rattle.words.specs.Bools.{both, both-true, same-test, or-true, or-right}
-use Rattle.steps.specs.Below.{anyBelow, one}
-use Rattle.steps.specs.BelowLaws.{any-make, any-at, any-cong, count-nth, count-sub}
+use Rattle.words.specs.Bools.{bit, both, both-true, same-test, or-true, or-right}
+use Rattle.words.specs.Below.{anyBelow}
+use Rattle.words.specs.BelowLaws.{any-make, any-at, any-cong, count-nth, count-sub}
 use Rattle.steps.specs.Model.{Steps, line, storesTo, made, arrives, rule01, isSettled, settlesIn, settled}
 use Rattle.steps.specs.declared.Step.{Step}
 use Rattle.steps.specs.declared.Step.the-variants.{Store as store, WriteBack as writeBack, Fence as fence}
@@ -55,9 +55,9 @@ pub record Ready (table list : List ℕ) (n : ℕ) : Type 0 where
   pub zero : Zero table
   pub wide : 1024 ≤ length table
 
-marked-one : (b : Bool) → not (eqb (one b) 0) ≡ b
-marked-one true = refl
-marked-one false = refl
+marked-bit : (b : Bool) → not (eqb (bit b) 0) ≡ b
+marked-bit true = refl
+marked-bit false = refl
 
 module _ (list seen : List ℕ) (i : ℕ) (x : Step) (e : x ≡ stepAt list i)
     (lined : (p v : ℕ) → stepAt list i ≡ store p v → line p < 1024) (T : Tally (stepAt list) i seen) (wide : 1024 ≤ length seen)
@@ -69,7 +69,7 @@ module _ (list seen : List ℕ) (i : ℕ) (x : Step) (e : x ≡ stepAt list i)
       go : (y : Step) → y ≡ stepAt list i → lostBy backs seen arrivals y ≡ isLost (stepAt list) last arrivals i y
       go (store p v) d =
           let h : line p < 1024 = lined p v (sym d) in
-          rw (B (line p) (omega arith), T (line p) (omega arith), marked-one (hadBack (stepAt list) last (line p)))
+          rw (B (line p) (omega arith), T (line p) (omega arith), marked-bit (hadBack (stepAt list) last (line p)))
       go (writeBack k) d = refl
       go fence d = refl
 

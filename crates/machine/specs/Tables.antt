@@ -10,9 +10,9 @@ use lib.ListN.{length, getD, set, replicate, length-set, List·getD-eq-default}
 use lib.Seq.{getD-set-same, getD-set-other}
 use lib.Dec.{eqb}
 use borrow.Author.Tests.{eq-eqb, ne-eqb}
-use Rattle.words.specs.Bools.{or-right, or-none}
-use Rattle.steps.specs.Below.{one}
-use Rattle.steps.specs.BelowLaws.{count-most}
+use Rattle.words.specs.Bools.{bit, or-right, or-none}
+use Rattle.words.specs.Below.{anyBelow, countBelow}
+use Rattle.words.specs.BelowLaws.{count-most}
 use Rattle.steps.specs.Model.{Steps, line, storesTo, made}
 use Rattle.steps.specs.LastFence.{hadBack}
 use Rattle.steps.specs.declared.Step.{Step}
@@ -43,7 +43,16 @@ abbrev pub Tally : Steps → ℕ → List ℕ → Type 0
 Tally s n t = (l : ℕ) → l < length t → getD t l 0 ≡ made line s n l
 
 abbrev pub Backs : Steps → ℕ → List ℕ → Type 0
-Backs s n t = (l : ℕ) → l < length t → getD t l 0 ≡ one (hadBack s n l)
+Backs s n t = (l : ℕ) → l < length t → getD t l 0 ≡ bit (hadBack s n l)
+
+module _ (s : Steps) (t : List ℕ) (h : Zero t) where
+  pub tally-none : Tally s 0 t
+  unfolding countBelow
+  tally-none l b = h l
+
+  pub backs-none : Backs s 0 t
+  unfolding anyBelow
+  backs-none l b = h l
 
 -- no number of a table is above c
 abbrev pub AtMost : ℕ → List ℕ → Type 0
@@ -68,6 +77,7 @@ marked-length fence t = refl
 
 module _ (s : Steps) (i : ℕ) (t : List ℕ) where
   pub tally-next : (x : Step) → x ≡ s i → Tally s i t → Tally s (i + 1) (counted x t)
+  unfolding countBelow
   tally-next (store p v) e h l b =
       let c : l < length t = omega (arith, length-set t (line p) (getD t (line p) 0 + 1)) in
       elim (ℕ-discrete l (line p)) [
@@ -81,12 +91,13 @@ module _ (s : Steps) (i : ℕ) (t : List ℕ) where
   tally-next fence e h l b = rw (add-one i, ← e) (omega (arith, h l b))
 
   pub backs-next : (x : Step) → x ≡ s i → Backs s i t → Backs s (i + 1) (marked x t)
+  unfolding anyBelow
   backs-next (store p v) e h l b = rw (add-one i, ← e, or-none) (h l b)
   backs-next (writeBack k) e h l b =
       let c : l < length t = omega (arith, length-set t k 1) in
       elim (ℕ-discrete l k) [
         | yes q ↦ rw (add-one i, ← e, q) (getD-set-same t k 1 0 (omega (arith, q))
-            ∙ sym (ap one (or-right (hadBack s i k) (eqb k k) (eq-eqb k k refl))))
+            ∙ sym (ap bit (or-right (hadBack s i k) (eqb k k) (eq-eqb k k refl))))
         | no q ↦ rw (add-one i, ← e, ne-eqb k l (λ r. q (sym r)), or-none) (getD-set-other t k l 1 0 q ∙ h l c)
       ]
   backs-next fence e h l b = rw (add-one i, ← e, or-none) (h l b)

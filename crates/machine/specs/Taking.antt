@@ -5,7 +5,7 @@ use mathlib.Core.List.{List, [], _∷_}
 use lib.ListN.{length, getD}
 use lib.Dec.{ltb, eqb}
 pub use Rattle.words.specs.Words.{storeWord}
-use Rattle.steps.specs.Below.{anyBelow}
+use Rattle.words.specs.Below.{anyBelow}
 use Rattle.steps.specs.Model.{line, made, run, cut, rule01, settled}
 use Rattle.steps.specs.Encoding.{stepAt, formedAt}
 use Rattle.steps.specs.Refusals.{answer, badImage}

@@ -11,8 +11,8 @@ use lib.Dec.{ltb, eqb}
 use borrow.Author.Tests.{ltb-false, le-ltb, eqb-true, eq-eqb, not-false}
 use Rattle.words.specs.Words.{storeWord}
 use Rattle.words.specs.Bools.{or-false}
-use Rattle.steps.specs.Below.{anyBelow}
-use Rattle.steps.specs.BelowLaws.{any-none, none-make, count-nth}
+use Rattle.words.specs.Below.{anyBelow}
+use Rattle.words.specs.BelowLaws.{any-none, none-make, count-nth}
 use Rattle.steps.specs.Model.{line, storesTo, made, run, cut, rule01, settled, Permitted}
 use Rattle.steps.specs.declared.Step.{Step}
 use Rattle.steps.specs.Settling.{is-store, settled-made}

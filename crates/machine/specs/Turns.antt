@@ -2,21 +2,16 @@
 -- And: no step changes how long an image is.
 use Prim.Native.Nat.{ℕ, _+_, _*_}
 use native.Mathlib.Numerals.{add-one}
-use mathlib.Core.Bool.{Bool, true, false}
+use mathlib.Core.Bool.{Bool, true}
 use mathlib.Core.List.{List}
 use mathlib.Core.Path.{_≡_, refl, sym, ap, _∙_}
 use lib.ListN.{length}
 use Rattle.words.specs.Words.{storeWord}
 use Rattle.words.specs.WordLaws.{length-store}
-use Rattle.steps.specs.Below.{anyBelow}
 use Rattle.steps.specs.Model.{Steps, line, made, land, arrives, run, cut}
 use Rattle.steps.specs.Section.{cut-keeps, cut-made}
 use Rattle.steps.specs.LastFence.{onFence, lastFence}
 use Rattle.steps.specs.declared.Step.{Step}
-
--- a test that held at none of the numbers below i, nor at i
-pub any-next : (f : ℕ → Bool) (i : ℕ) → anyBelow f i ≡ false → f i ≡ false → anyBelow f (i + 1) ≡ false
-any-next f i e h = rw (add-one i, e, h)
 
 module _ (s : Steps) (i : ℕ) (x : Step) (e : x ≡ s i) where
   pub fence-next : (m h : ℕ) → m ≡ lastFence s i → h ≡ onFence x i m → h ≡ lastFence s (i + 1)

@@ -10,7 +10,7 @@ use steps::Step;
 ghost use mathlib.Core.Path.{_≡_};
 ghost use Prim.Native.Nat.{_*_, _≤_};
 ghost use lib.ListN.{length};
-ghost use Rattle.steps.specs.Below.{anyBelow};
+ghost use Rattle.words.specs.Below.{anyBelow};
 ghost use Rattle.steps.specs.Encoding.{stepAt};
 ghost use Rattle.steps.specs.Refusals.{badImage};
 ghost use Rattle.machine.specs.Taking.{malformed, badList, arrived, badArrivals};

@@ -6,6 +6,7 @@ use mathlib.Core.List.{List, [], _∷_}
 use mathlib.Core.Path.{_≡_, refl}
 use lib.ListN.{set}
 use lib.Dec.{eqb}
+use Rattle.words.specs.Below.{anyBelow, countBelow}
 use Rattle.steps.specs.Model.{store, writeBack, fence, Steps, line, made, cut, lineWrites, wordWrites}
 use Rattle.steps.specs.Model.{Rule, rule01, isSettled, settled, Permitted}
 use Rattle.steps.specs.Settling.{settled-made}
@@ -16,9 +17,11 @@ use Rattle.steps.specs.Encoding.{stepsOf}
 module _ (unit : ℕ → ℕ) (rule : Rule) (s : Steps) where
   -- with no step taken no arrivals are permitted but 0, and the memory is unchanged
   pub permitted-none : Permitted unit rule s 0 (λ u. 0)
+  unfolding countBelow
   permitted-none = record { least = λ u. omega arith; most = λ u. omega arith }
 
   pub none-arrive : (a : ℕ → ℕ) → Permitted unit rule s 0 a → (u : ℕ) → a u ≡ 0
+  unfolding countBelow
   none-arrive a ok u = omega (arith, ok .most u)
 
   pub cut-none : {M : Type 0} (write : M → ℕ → ℕ → M) (a : ℕ → ℕ) (m : M) → cut write unit s a m 0 ≡ m
@@ -35,15 +38,15 @@ early = stepsOf (writeBack 0 ∷ store 0 5 ∷ fence ∷ [])
 
 -- the store is settled; with no fence none is, and a fence before it settles nothing
 early-settled : settled line rule01 early 3 0 ≡ 1
-unfolding isSettled
+unfolding isSettled anyBelow countBelow
 early-settled = refl
 
 no-fence : settled line rule01 (stepsOf (store 0 5 ∷ writeBack 0 ∷ writeBack 0 ∷ [])) 3 0 ≡ 0
-unfolding isSettled
+unfolding isSettled anyBelow countBelow
 no-fence = refl
 
 fence-too-soon : settled line rule01 (stepsOf (writeBack 0 ∷ fence ∷ store 0 5 ∷ [])) 3 0 ≡ 0
-unfolding isSettled
+unfolding isSettled anyBelow countBelow
 fence-too-soon = refl
 
 -- ---- a line's stores arrive in order
@@ -56,12 +59,15 @@ zeros = 0 ∷ 0 ∷ 0 ∷ 0 ∷ 0 ∷ 0 ∷ 0 ∷ 0 ∷ 0 ∷ []
 
 -- of the three stores to line 0 two arrive, of line 1 none
 in-order : cut set line three (λ u. cond (eqb u 0) 2 0) zeros 4 ≡ 7 ∷ 8 ∷ 0 ∷ 0 ∷ 0 ∷ 0 ∷ 0 ∷ 0 ∷ 0 ∷ []
+unfolding countBelow
 in-order = refl
 
 -- ---- line writes and word writes
 
 counted-lines : lineWrites early 3 ≡ 1
+unfolding countBelow
 counted-lines = refl
 
 counted-words : wordWrites early 3 ≡ 1
+unfolding countBelow
 counted-words = refl

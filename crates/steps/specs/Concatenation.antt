@@ -5,7 +5,11 @@ use native.Mathlib.Nat.{add-suc, add-zero}
 use native.Mathlib.Omega.{arith}
 use mathlib.Core.Path.{_≡_, refl, sym, ap, _∙_, fun-ext}
 use mathlib.Core.Logic.{_⊎_, inl, inr}
-use Rattle.steps.specs.BelowLaws.{same-ltb, by-parts, count-from, count-cong}
+use lib.Dec.{ltb}
+use borrow.Author.Tests.{ltb-true, lt-ltb}
+use Rattle.words.specs.Bools.{same-test}
+use Rattle.words.specs.BelowLaws.{count-from, count-cong}
+use Rattle.steps.specs.Indices.{by-parts}
 use Rattle.steps.specs.Model.{Step, store, writeBack, fence, Steps, line, storesTo, made, arrives, run, cut}
 use Rattle.steps.specs.Model.{Rule, Permitted}
 use Rattle.steps.specs.Settling.{Settled, AllSettled, Lawful, InLines}
@@ -37,6 +41,10 @@ settled-shift rule L s k n i l r = record {
   behind = omega arith;
   taken = omega arith;
 }
+
+same-ltb : (a b c d : ℕ) → (a < b → c < d) → (c < d → a < b) → ltb a b ≡ ltb c d
+same-ltb a b c d f g =
+    same-test (ltb a b) (ltb c d) (λ e. lt-ltb c d (f (ltb-true a b e))) (λ e. lt-ltb a b (g (ltb-true c d e)))
 
 -- a step of the rest arrives alike
 arrives-from : (unit : ℕ → ℕ) (s : Steps) (a : ℕ → ℕ) (k n : ℕ) (x : Step)

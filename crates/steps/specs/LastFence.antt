@@ -7,8 +7,9 @@ use mathlib.Core.Path.{_≡_, refl}
 use lib.Dec.{ltb}
 use borrow.Author.Tests.{ltb-true, lt-ltb, eq-eqb}
 use Rattle.words.specs.Bools.{by-test, same-test}
-use Rattle.steps.specs.Below.{anyBelow}
-use Rattle.steps.specs.BelowLaws.{any-make, any-at, grow}
+use Rattle.words.specs.Below.{anyBelow}
+use Rattle.words.specs.BelowLaws.{any-make, any-at}
+use Rattle.steps.specs.Indices.{grow}
 use Rattle.steps.specs.Model.{Step, store, writeBack, fence, Steps, writesBack, rule01, isSettled}
 use Rattle.steps.specs.Settling.{Settled, is-back, settled-test, test-settled}
 

@@ -1,6 +1,5 @@
-pub mod Below
+pub mod Indices
 pub mod Model
-pub mod BelowLaws
 pub mod Settling
 pub mod Section
 pub mod Concatenation

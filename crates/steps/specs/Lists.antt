@@ -6,8 +6,8 @@ use mathlib.Core.List.{List, [], _∷_, _++_}
 use mathlib.Core.Path.{_≡_, refl, sym, ap, ap₂, _∙_}
 use lib.ListN.{length, List·getD-append}
 use lib.Seq.{getD-append-add}
-use Rattle.steps.specs.Below.{countBelow}
-use Rattle.steps.specs.BelowLaws.{count-from, count-cong}
+use Rattle.words.specs.Below.{countBelow}
+use Rattle.words.specs.BelowLaws.{count-from, count-cong}
 use Rattle.steps.specs.Model.{Step, store, writeBack, fence, land, run}
 use Rattle.steps.specs.Encoding.{stepsOf}
 

@@ -7,7 +7,7 @@ use Prim.Native.Nat.{ℕ, zero, suc, _≤_, _/_}
 use mathlib.Core.Bool.{Bool, true, false, cond}
 use lib.Dec.{ltb, eqb}
 use Rattle.words.specs.Bools.{both}
-use Rattle.steps.specs.Below.{anyBelow, countBelow}
+use Rattle.words.specs.Below.{anyBelow, countBelow}
 pub use Rattle.steps.specs.declared.Step.{Step}
 pub use Rattle.steps.specs.declared.Step.the-variants.{Store as store, WriteBack as writeBack, Fence as fence}
 

@@ -9,7 +9,7 @@ use mathlib.Core.Logic.{_⊎_, inl, inr}
 use lib.Dec.{ltb}
 use borrow.Author.Tests.{ltb-true, lt-ltb}
 use Rattle.words.specs.Bools.{by-test}
-use Rattle.steps.specs.BelowLaws.{grow}
+use Rattle.steps.specs.Indices.{grow}
 use Rattle.steps.specs.Model.{Step, store, writeBack, fence, Steps, line, made, land, arrives, run, cut}
 use Rattle.steps.specs.Model.{Rule, Permitted}
 use Rattle.steps.specs.Settling.{EachStore, Arrives, Settled, AllSettled, Lawful, InLines}

@@ -9,8 +9,8 @@ use mathlib.Core.Path.{_≡_, refl, sym, ap, _∙_}
 use lib.Dec.{eqb}
 use borrow.Author.Tests.{eqb-true, eq-eqb}
 use Rattle.words.specs.Bools.{both, both-true, by-test}
-use Rattle.steps.specs.Below.{anyBelow, countBelow}
-use Rattle.steps.specs.BelowLaws.{any-make, any-at, count-le, count-hit, count-nth, count-cong, count-sub}
+use Rattle.words.specs.Below.{anyBelow, countBelow}
+use Rattle.words.specs.BelowLaws.{any-make, any-at, count-le, count-nth, count-cong, count-sub}
 use Rattle.steps.specs.Model.{Step, store, writeBack, fence, Steps, line, storesTo, writesBack, isFence, made}
 use Rattle.steps.specs.Model.{Rule, isSettled, settlesIn, settled, Permitted}
 
@@ -67,7 +67,8 @@ is-store unit u fence e = absurd (false≢true e)
 
 pub made-store : (unit : ℕ → ℕ) (s : Steps) (i p v : ℕ) → s i ≡ store p v
     → made unit s (suc i) (unit p) ≡ suc (made unit s i (unit p))
-made-store unit s i p v e = count-hit (λ j. storesTo unit (unit p) (s j)) i (rw e (eq-eqb (unit p) (unit p) refl))
+unfolding countBelow
+made-store unit s i p v e = rw (e, eq-eqb (unit p) (unit p) refl) (omega arith)
 
 pub made-le : (unit : ℕ → ℕ) (s : Steps) (i j u : ℕ) → i ≤ j → made unit s i u ≤ made unit s j u
 made-le unit s i j u = count-le (λ j. storesTo unit u (s j)) i j

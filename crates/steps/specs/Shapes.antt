@@ -8,7 +8,7 @@ use mathlib.Core.Path.{_≡_, sym, ap, _∙_, fun-ext}
 use mathlib.Core.Logic.{_⊎_, inl, inr}
 use lib.ListN.{length}
 use lib.Seq.{getD-append-seam}
-use Rattle.steps.specs.BelowLaws.{by-parts}
+use Rattle.steps.specs.Indices.{by-parts}
 use Rattle.steps.specs.Model.{Step, store, writeBack, fence, Steps, line, run, Rule}
 use Rattle.steps.specs.Settling.{EachStore, Settled, AllSettled, Lawful, InLines, settled-mono}
 use Rattle.steps.specs.Section.{Section, Cuts}

@@ -12,10 +12,11 @@ use lib.ListN.{length, getD, set, drop, length-set, length-drop}
 use lib.Seq.{getD-set-same, getD-set-other, getD-drop, drop-drop}
 use Rattle.words.specs.Update.{upd}
 use Rattle.words.specs.Bools.{both, by-test}
+use Rattle.words.specs.Below.{countBelow}
+use Rattle.words.specs.BelowLaws.{count-most}
 use Rattle.header.specs.Header.{isLocked}
 use Rattle.leaf.specs.Leaf.{Leaf, leafIn, view}
-use Rattle.leaf.specs.Search.{smallestOf, count, countTo}
-use Rattle.leaf.specs.SearchLaws.{count-most}
+use Rattle.leaf.specs.Search.{smallestOf, count}
 use Rattle.leaf.specs.TallyLaws.{least-reaches, smallest-is}
 use Rattle.leaf.specs.Tally.{Tells, wrongAt, atMost, mostTo, twins}
 use Rattle.leaf.specs.declared.tally.Tally.{Tally}
@@ -46,17 +47,17 @@ fault-far L N st e = by-test
   where
     rest : ℕ
     rest = firstFault false (againBy st (L .next)) (L .lock) (bareBy st (count L))
-        (not (eqb (countTo (wrongAt L) (L .size)) 0)) (twins L)
-        (lowBy st (countTo (atMost L (st .last)) (L .size)))
+        (not (eqb (countBelow (wrongAt L) (L .size)) 0)) (twins L)
+        (lowBy st (countBelow (atMost L (st .last)) (L .size)))
 
 -- some key is at most x
 module _ (L : Leaf) (t : Tally) (tells : Tells L t) (small : (s : ℕ) → L .key s ≤ 18446744073709551615) (x : ℕ) where
-  reached-is : eqb (reachedBy t x) 0 ≡ eqb (countTo (atMost L x) (L .size)) 0
+  reached-is : eqb (reachedBy t x) 0 ≡ eqb (countBelow (atMost L x) (L .size)) 0
   unfolding count
   reached-is =
       ap (λ (b : Bool). eqb (cond b 1 0) 0)
       ((λ i. both (not (eqb (tells .entries i) 0)) (leb (tells .least i) x)) ∙ least-reaches L (L .size) x small)
-      ∙ by-test (λ z. eqb (cond (not z) 1 0) 0 ≡ z) (eqb (countTo (atMost L x) (L .size)) 0) (λ e. refl) (λ e. refl)
+      ∙ by-test (λ z. eqb (cond (not z) 1 0) 0 ≡ z) (eqb (countBelow (atMost L x) (L .size)) 0) (λ e. refl) (λ e. refl)
 
 pub smallest-told : (L : Leaf) (t : Tally) → Tells L t → ((s : ℕ) → L .key s ≤ 18446744073709551615) → smallestBy t ≡ smallestOf L
 smallest-told L t tells small = (λ i. cond (eqb (tells .entries i) 0) 0 (tells .least i)) ∙ smallest-is L small
@@ -78,8 +79,8 @@ module _ (L : Leaf) (N key : ℕ) (st : State) (fault : ℕ) (is : fault ≡ fau
   unfolding judged
   judged-on next t tells small en e =
       rw (eq-eqb (faultOf L N st) 0 (sym is ∙ e))
-      (moved-by (reachedBy t key) (countTo (atMost L key) (L .size)) (reached-is L t tells small key) ∙
-      (λ i. moved (en i) (tells .entries i) (countTo (atMost L key) (L .size)) (tells .most i) st))
+      (moved-by (reachedBy t key) (countBelow (atMost L key) (L .size)) (reached-is L t tells small key) ∙
+      (λ i. moved (en i) (tells .entries i) (countBelow (atMost L key) (L .size)) (tells .most i) st))
     where
       moved-by : (a b : ℕ) → eqb a 0 ≡ eqb b 0 → moved next (t .entries) a (t .most) st ≡ moved next (t .entries) b (t .most) st
       moved-by a b q = λ i. record {
@@ -152,7 +153,7 @@ judged-bounded w b N key i st B =
     L = view w b
 
     reached : ℕ
-    reached = countTo (atMost L key) (L .size)
+    reached = countBelow (atMost L key) (L .size)
 
     most : ℕ
     most = mostTo L (L .size)

@@ -7,9 +7,10 @@ use lib.Dec.{leb, eqb}
 use lib.ListN.{length, getD}
 use Rattle.words.specs.Update.{upd}
 use Rattle.words.specs.Bools.{both}
+use Rattle.words.specs.Below.{countBelow}
 use Rattle.header.specs.Header.{isLocked}
 use Rattle.leaf.specs.Leaf.{Leaf}
-use Rattle.leaf.specs.Search.{smallestOf, count, countTo}
+use Rattle.leaf.specs.Search.{smallestOf, count}
 use Rattle.leaf.specs.Tally.{wrongAt, atMost, mostTo, twins}
 use Rattle.leaf.specs.declared.tally.Tally.{Tally}
 use Rattle.survey.specs.Marks.{blocksIn, isIn}
@@ -101,14 +102,14 @@ smallestBy t = cond (eqb (t .entries) 0) 0 (t .least)
 unfoldable pub faultOf : Leaf → ℕ → State → ℕ
 faultOf L N st =
     firstFault (leb N (L .next)) (againBy st (L .next)) (L .lock) (bareBy st (count L))
-    (not (eqb (countTo (wrongAt L) (L .size)) 0)) (twins L)
-    (lowBy st (countTo (atMost L (st .last)) (L .size)))
+    (not (eqb (countBelow (wrongAt L) (L .size)) 0)) (twins L)
+    (lowBy st (countBelow (atMost L (st .last)) (L .size)))
 
 -- the leaf at hand judged
 unfoldable pub judged : Leaf → ℕ → ℕ → State → State
 judged L N key st =
     cond (eqb (faultOf L N st) 0)
-    (moved (L .next) (count L) (countTo (atMost L key) (L .size)) (mostTo L (L .size)) st)
+    (moved (L .next) (count L) (countBelow (atMost L key) (L .size)) (mostTo L (L .size)) st)
     (stopped (faultOf L N st) st)
 
 -- at most n turns

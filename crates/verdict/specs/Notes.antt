@@ -11,9 +11,10 @@ use lib.Dec.{eqb}
 use lib.ListN.{length, length-append}
 use Rattle.words.specs.Update.{upd, upd-same, upd-other}
 use Rattle.words.specs.Bools.{both, both-none, by-test, differ}
+use Rattle.words.specs.Below.{countBelow}
+use Rattle.words.specs.BelowLaws.{count-none}
 use Rattle.leaf.specs.Leaf.{Leaf, Taken, In}
-use Rattle.leaf.specs.Search.{count, countTo}
-use Rattle.leaf.specs.SearchLaws.{count-none}
+use Rattle.leaf.specs.Search.{count}
 use Rattle.leaf.specs.Tally.{atMost, mostTo}
 use Rattle.leaf.specs.TallyLaws.{tally-right, right-prints, right-twins, none-at-most, all-above, some-at-most, most-above, most-is}
 use Rattle.survey.specs.Walk.{State, againBy, moved}
@@ -101,7 +102,7 @@ module _ (I : ℕ → Leaf) (N key : ℕ) (inside : (b s : ℕ) → Taken (I b) 
     L = I (st .at)
 
     abbrev low : ℕ
-    low = countTo (atMost (I (st .at)) (st .last)) (I (st .at) .size)
+    low = countBelow (atMost (I (st .at)) (st .last)) (I (st .at) .size)
 
     -- ---- the tests and the leaf that stands
 
@@ -164,7 +165,7 @@ module _ (I : ℕ → Leaf) (N key : ℕ) (inside : (b s : ℕ) → Taken (I b) 
 
     module _ (s : Stands I N xs (st .at)) where
       abbrev pub reached : ℕ
-      reached = countTo (atMost (I (st .at)) key) (I (st .at) .size)
+      reached = countBelow (atMost (I (st .at)) key) (I (st .at) .size)
 
       abbrev pub most : ℕ
       most = mostTo (I (st .at)) (I (st .at) .size)

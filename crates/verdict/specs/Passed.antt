@@ -5,8 +5,9 @@ use Prim.Native.Nat.{ℕ, _≤_, _<_}
 use native.Mathlib.Omega.{arith}
 use borrow.Author.Tests.{leb-false, lt-leb, eqb-true, eq-eqb}
 use lib.Dec.{leb, eqb}
+use Rattle.words.specs.Below.{countBelow}
 use Rattle.leaf.specs.Leaf.{Leaf}
-use Rattle.leaf.specs.Search.{count, countTo}
+use Rattle.leaf.specs.Search.{count}
 use Rattle.leaf.specs.Tally.{wrongAt, atMost, twins}
 use Rattle.survey.specs.Walk.{State, firstFault, againBy, bareBy, lowBy, faultOf}
 
@@ -16,18 +17,18 @@ pub record Passed (L : Leaf) (N : ℕ) (st : State) : Type 0 where
   pub new : againBy st (L .next) ≡ false
   pub unlocked : L .lock ≡ false
   pub full : bareBy st (count L) ≡ false
-  pub prints : countTo (wrongAt L) (L .size) ≡ 0
+  pub prints : countBelow (wrongAt L) (L .size) ≡ 0
   pub alone : twins L ≡ false
-  pub above : lowBy st (countTo (atMost L (st .last)) (L .size)) ≡ false
+  pub above : lowBy st (countBelow (atMost L (st .last)) (L .size)) ≡ false
 
 pub fault-passed : (L : Leaf) (N : ℕ) (st : State) → faultOf L N st ≡ 0 → Passed L N st
 unfolding faultOf
 fault-passed L N st h =
-    go (leb N (L .next)) (againBy st (L .next)) (L .lock) (bareBy st (count L)) (eqb (countTo (wrongAt L) (L .size)) 0) (twins L)
-    (lowBy st (countTo (atMost L (st .last)) (L .size))) refl refl refl refl refl refl refl h
+    go (leb N (L .next)) (againBy st (L .next)) (L .lock) (bareBy st (count L)) (eqb (countBelow (wrongAt L) (L .size)) 0) (twins L)
+    (lowBy st (countBelow (atMost L (st .last)) (L .size))) refl refl refl refl refl refl refl h
   where
     go : (a b c d e f g : Bool) → leb N (L .next) ≡ a → againBy st (L .next) ≡ b → L .lock ≡ c → bareBy st (count L) ≡ d
-        → eqb (countTo (wrongAt L) (L .size)) 0 ≡ e → twins L ≡ f → lowBy st (countTo (atMost L (st .last)) (L .size)) ≡ g
+        → eqb (countBelow (wrongAt L) (L .size)) 0 ≡ e → twins L ≡ f → lowBy st (countBelow (atMost L (st .last)) (L .size)) ≡ g
         → firstFault a b c d (not e) f g ≡ 0 → Passed L N st
     go true b c d e f g p q r s t u v z = absurd (omega arith)
     go false true c d e f g p q r s t u v z = absurd (omega arith)
@@ -41,7 +42,7 @@ fault-passed L N st h =
       new = q;
       unlocked = r;
       full = s;
-      prints = eqb-true (countTo (wrongAt L) (L .size)) 0 t;
+      prints = eqb-true (countBelow (wrongAt L) (L .size)) 0 t;
       alone = u;
       above = v;
     }
@@ -50,14 +51,14 @@ pub passed-fault : (L : Leaf) (N : ℕ) (st : State) → Passed L N st → fault
 unfolding faultOf
 passed-fault L N st p = λ i.
     firstFault (lt-leb N (L .next) (p .near) i) (p .new i) (p .unlocked i) (p .full i)
-    (not (eq-eqb (countTo (wrongAt L) (L .size)) 0 (p .prints) i)) (p .alone i) (p .above i)
+    (not (eq-eqb (countBelow (wrongAt L) (L .size)) 0 (p .prints) i)) (p .alone i) (p .above i)
 
 -- a fault is a number of its own
 pub fault-number : (L : Leaf) (N : ℕ) (st : State) → (faultOf L N st ≡ 0 → ⊥) → 31 ≤ faultOf L N st
 unfolding faultOf
 fault-number L N st ne =
-    go (leb N (L .next)) (againBy st (L .next)) (L .lock) (bareBy st (count L)) (not (eqb (countTo (wrongAt L) (L .size)) 0)) (twins L)
-    (lowBy st (countTo (atMost L (st .last)) (L .size))) ne
+    go (leb N (L .next)) (againBy st (L .next)) (L .lock) (bareBy st (count L)) (not (eqb (countBelow (wrongAt L) (L .size)) 0)) (twins L)
+    (lowBy st (countBelow (atMost L (st .last)) (L .size))) ne
   where
     go : (a b c d e f g : Bool) → (firstFault a b c d e f g ≡ 0 → ⊥) → 31 ≤ firstFault a b c d e f g
     go true b c d e f g h = omega arith

@@ -3,13 +3,13 @@ use mathlib.Core.Bool.{Bool, cond, not}
 use mathlib.Core.List.{List, [], _∷_}
 use Prim.Native.Nat.{ℕ}
 use lib.Dec.{eqb}
+use Rattle.words.specs.Below.{countBelow}
 use Rattle.leaf.specs.Leaf.{Leaf}
-use Rattle.leaf.specs.Search.{countTo}
 use Rattle.leaf.specs.Tally.{atMost}
 
 -- "whose smallest key is at most that key": some key of the leaf is
 abbrev pub reachesTo : Leaf → ℕ → Bool
-reachesTo L k = not (eqb (countTo (atMost L k) (L .size)) 0)
+reachesTo L k = not (eqb (countBelow (atMost L k) (L .size)) 0)
 
 -- "The target leaf of a key is the last chained leaf whose smallest key is at most that key; if there is none, block 0": t where there
 -- is none

@@ -10,8 +10,9 @@ use borrow.Author.Tests.{eq-eqb, ne-eqb}
 use lib.ListN.{length, length-append}
 use Rattle.words.specs.Update.{upd-other}
 use Rattle.words.specs.Bools.{both, differ, not-so}
+use Rattle.words.specs.Below.{countBelow}
 use Rattle.leaf.specs.Leaf.{Leaf, Taken}
-use Rattle.leaf.specs.Search.{count, countTo}
+use Rattle.leaf.specs.Search.{count}
 use Rattle.leaf.specs.Tally.{atMost, mostTo}
 use Rattle.survey.specs.Walk.{State, againBy, faultOf, judged, moved, stopped, walk, start, surveyed}
 use Rattle.survey.specs.Turns.{walk-stop}
@@ -50,7 +51,7 @@ module _ (I : ℕ → Leaf) (N key : ℕ) (inside : (b s : ℕ) → Taken (I b) 
     L = I (st .at)
 
     abbrev after : State
-    after = moved (I (st .at) .next) (count (I (st .at))) (countTo (atMost (I (st .at)) key) (I (st .at) .size))
+    after = moved (I (st .at) .next) (count (I (st .at))) (countBelow (atMost (I (st .at)) key) (I (st .at) .size))
         (mostTo (I (st .at)) (I (st .at) .size)) st
 
     judged-is : faultOf L N st ≡ 0 → judged L N key st ≡ after

@@ -1,14 +1,18 @@
 -- Two tests in one, and ways of going by a test's value, for all crates above.
 use mathlib.Core.Path.{_≡_, refl, sym}
-use mathlib.Core.Bool.{Bool, true, false, _||_}
+use mathlib.Core.Bool.{Bool, true, false, cond, _||_}
 use mathlib.Core.Logic.{_⊎_, inl, inr}
-use Prim.Native.Nat.{ℕ}
+use Prim.Native.Nat.{ℕ, _≤_}
 use native.Mathlib.Omega.{arith}
 
 -- both tests hold
 abbrev pub both : Bool → Bool → Bool
 both true b = b
 both false b = false
+
+-- 1 where a test holds, else 0
+abbrev pub bit : Bool → ℕ
+bit b = cond b 1 0
 
 -- by the value of a test, with the equation
 pub by-test : (P : Bool → Type 0) (b : Bool) → (b ≡ true → P true) → (b ≡ false → P false) → P b
@@ -31,6 +35,10 @@ pub same-test : (b c : Bool) → (b ≡ true → c ≡ true) → (c ≡ true →
 same-test true c f g = sym (f refl)
 same-test false true f g = g refl
 same-test false false f g = refl
+
+pub bit-most : (b : Bool) → bit b ≤ 1
+bit-most true = omega arith
+bit-most false = omega arith
 
 -- ---- two tests in one
 

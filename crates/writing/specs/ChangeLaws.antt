@@ -7,9 +7,10 @@ use borrow.Author.Tests.{lt-ltb, le-ltb}
 use lib.Dec.{eqb}
 use lib.ListN.{length}
 use Rattle.words.specs.Bools.{both, by-test}
+use Rattle.words.specs.Below.{countBelow}
 use Rattle.header.specs.Header.{altIn, cleared}
 use Rattle.leaf.specs.Leaf.{occIn, view}
-use Rattle.leaf.specs.Search.{slotOf, countTo, count}
+use Rattle.leaf.specs.Search.{slotOf, count}
 use Rattle.leaf.specs.declared.search.Slot.{Slot}
 use Rattle.leaf.specs.declared.search.Slot.the-variants.{At, Missing}
 use Rattle.steps.specs.declared.Step.{Step}
@@ -110,6 +111,7 @@ abbrev pub threeSteps : Made
 threeSteps = Steps 3 (record { 0 = 1 }) (record { 0 = 1 })
 
 pub three-told : (p v : ℕ) (list : List ℕ) → madeAs threeSteps (written (oneStore p v) list) ≡ outcome 0 (oneStore p v) list
+unfolding countBelow
 three-told p v list = refl
 
 pub set-told : (b s v : ℕ) (list : List ℕ) → madeAs threeSteps (written (setList b s v) list) ≡ outcome 0 (setList b s v) list
@@ -127,7 +129,7 @@ del-told w p b s list =
     (λ e. three-told (wordPlace b 0) (lowWord (cleared (headIn w b) s)) list)
 
 -- which of the two a del makes
-module _ (w : ℕ → ℕ) (p b s n : ℕ) (is : n ≡ countTo (occIn (headIn w b)) 14) where
+module _ (w : ℕ → ℕ) (p b s n : ℕ) (is : n ≡ countBelow (occIn (headIn w b)) 14) where
   pub alone-unlink : both (not (eqb b 0)) (eqb n 1) ≡ true → unlinkList w p b ≡ delList w p b s
   unfolding delList isAlone view count
   alone-unlink e = rw (← is, e)

@@ -9,6 +9,7 @@ use native.Mathlib.Omega.{arith}
 use borrow.Author.Tests.{ne-eqb, lt-ltb, le-ltb}
 use lib.Dec.{eqb}
 use lib.ListN.{length, length-append}
+use Rattle.words.specs.Below.{countBelow}
 use Rattle.leaf.specs.Leaf.{Leaf, occIn, view}
 use Rattle.leaf.specs.Search.{lowestVacant}
 use Rattle.steps.specs.Model.{isLineWrite, isWordWrite}
@@ -110,7 +111,7 @@ record Full (l : List Step) : Type 0 where
 
 module _ (w : ℕ → ℕ) (b c k v : ℕ) (seven : length (movedSlots (view w b)) ≡ 7) where
   full-counts : Full (fullPut w b c k v)
-  unfolding fullPut
+  unfolding fullPut countBelow
   full-counts =
       elim (below (goesUp (view w b) k) w b c k v) [
         | inl e ↦

@@ -10,9 +10,11 @@ use lib.Dec.{eqb}
 use lib.ListN.{length}
 use Rattle.words.specs.Words.{reads}
 use Rattle.words.specs.Bools.{both, by-test, differ, not-so}
+use Rattle.words.specs.Below.{countBelow}
+use Rattle.words.specs.BelowLaws.{count-all, count-less}
 use Rattle.leaf.specs.Leaf.{Right, occIn, view}
-use Rattle.leaf.specs.Search.{lowest, lowestVacant, count, countTo}
-use Rattle.leaf.specs.SearchLaws.{lowest-same, vacant-at, vacant-none, count-all, count-less}
+use Rattle.leaf.specs.Search.{lowest, lowestVacant, count}
+use Rattle.leaf.specs.SearchLaws.{lowest-same, vacant-at, vacant-none}
 use Rattle.leaf.specs.declared.search.Slot.{Slot}
 use Rattle.leaf.specs.declared.search.Slot.the-variants.{At, Missing}
 use Rattle.steps.specs.declared.Step.{Step}
@@ -101,12 +103,12 @@ pub full-vacant : (w : ℕ → ℕ) (b : ℕ) → isFull (view w b) ≡ isMissin
 unfolding view count
 full-vacant w b = by (lowestVacant (occIn (headIn w b)) 14) refl
   where
-    by : (x : Slot) → lowestVacant (occIn (headIn w b)) 14 ≡ x → eqb (countTo (occIn (headIn w b)) 14) 14 ≡ isMissing x
+    by : (x : Slot) → lowestVacant (occIn (headIn w b)) 14 ≡ x → eqb (countBelow (occIn (headIn w b)) 14) 14 ≡ isMissing x
     by (At s) e =
         let r = vacant-at (occIn (headIn w b)) 14 s e in
-        ne-eqb (countTo (occIn (headIn w b)) 14) 14 (λ q. omega (arith, count-less (occIn (headIn w b)) 14 s (r .0) (r .1)))
+        ne-eqb (countBelow (occIn (headIn w b)) 14) 14 (λ q. omega (arith, count-less (occIn (headIn w b)) 14 s (r .0) (r .1)))
     by Missing e =
-        eq-eqb (countTo (occIn (headIn w b)) 14) 14 (count-all (occIn (headIn w b)) 14 (vacant-none (occIn (headIn w b)) 14 e))
+        eq-eqb (countBelow (occIn (headIn w b)) 14) 14 (count-all (occIn (headIn w b)) 14 (vacant-none (occIn (headIn w b)) 14 e))
 
 -- a block that is out of the set is none that is in it
 pub out-apart : (n b c : ℕ) → isIn n b ≡ true → not (isIn n c) ≡ true → b ≢ c

@@ -2,25 +2,26 @@
 use borrow.Author.Needs.{needs}
 use native.Mathlib.Omega.{arith}
 use Prim.Native.Nat.{_-_, _≤_}
-use native.Mathlib.Numerals.{add-one}
 use mathlib.Core.Path.{_≡_, refl, sym, _∙_}
 use mathlib.Core.Bool.{false}
 use denote.Ref.{now}
+use Rattle.words.specs.Below.{anyBelow}
+use Rattle.words.specs.BelowLaws.{any-next}
 use Rattle.leaf.specs.Leaf.{leafIn}
 use Rattle.leaf.specs.SearchSteps.{in-occ}
-use Rattle.leaf.specs.Tally.{someTo, shares}
-use Rattle.leaf.specs.TallySteps.{some-next, twin-found, twin-none, twin-vacant}
+use Rattle.leaf.specs.Tally.{shares}
+use Rattle.leaf.specs.TallySteps.{twin-found, twin-none, twin-vacant}
 use Rattle.leaf.proofs.tally.is_twin.Statement.{statement}
 use Rattle.leaf.proofs.tally.is_twin.Tie as tie
 
 abbrev Inv-loop : tie.InvT-loop
-Inv-loop leaf head s t₀ t = (t ≤ s) × (someTo (shares (leafIn leaf) s) t ≡ false)
+Inv-loop leaf head s t₀ t = (t ≤ s) × (anyBelow (shares (leafIn leaf) s) t ≡ false)
 
 abbrev μ-loop : tie.MeasureT-loop
 μ-loop leaf head s t₀ t = s - t
 
 loop-holds : tie.Need-loop-holds Inv-loop μ-loop
-unfolding someTo
+unfolding anyBelow
 loop-holds c = (omega arith, refl)
 
 pub is-twin-spec : {M : Type 1} → statement M
@@ -36,9 +37,8 @@ is-twin-spec =
     (λ c. omega arith)
     (λ c. let k = c .before .before .before in let st = k .before .before .before .before in (
       omega arith,
-      rw (add-one (k .loop .t))
-          (some-next (shares (leafIn (now (st .args .leaf))) (st .args .s)) (k .loop .t) (k .loop .inv .1)
-          (sym (c .before .same-key .ensures) ∙ c .if2 .left)),
+      any-next (shares (leafIn (now (st .args .leaf))) (st .args .s)) (k .loop .t) (k .loop .inv .1)
+          (sym (c .before .same-key .ensures) ∙ c .if2 .left),
     ))
     (λ c. let k = c .before in let o = k .before .before in let st = o .before .before in
     let e : k .loop .t ≡ st .args .s = omega arith in

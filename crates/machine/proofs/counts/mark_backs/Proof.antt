@@ -4,7 +4,7 @@ use mathlib.Core.Path.{_≡_, refl, sym, ap, _∙_, subst}
 use native.Mathlib.Omega.{arith}
 use lib.ListN.{length}
 use Rattle.steps.specs.Encoding.{stepAt}
-use Rattle.machine.specs.Tables.{Backs, backs-next, marked-length}
+use Rattle.machine.specs.Tables.{Backs, backs-none, backs-next, marked-length}
 use Rattle.machine.proofs.counts.mark_backs.Statement.{statement}
 use Rattle.machine.proofs.counts.mark_backs.Tie as tie
 
@@ -28,7 +28,9 @@ loop-again c =
 pub mark-backs-spec : {M : Type 1} → statement M
 mark-backs-spec =
     tie.close
-    (tie.spec Inv-loop μ-loop (λ c. (omega arith, λ l h. c .before .before .pre .1 l, refl)) (λ c κs. omega arith)
+    (tie.spec Inv-loop μ-loop
+    (λ c. let st = c .before .before in
+    (omega arith, backs-none (stepAt (st .args .list .now)) (st .args .table .now) (st .pre .1), refl)) (λ c κs. omega arith)
     (λ c κs. tt) (λ c. omega arith) (λ c. omega arith) loop-again
     (λ c. c .before .loop .inv .2)
     (λ c.

@@ -4,7 +4,7 @@ use mathlib.Core.Path.{_≡_, refl, sym, ap, _∙_, subst}
 use native.Mathlib.Omega.{arith}
 use lib.ListN.{length}
 use Rattle.steps.specs.Encoding.{stepAt}
-use Rattle.machine.specs.Tables.{Tally, tally-most, tally-next, counted-length}
+use Rattle.machine.specs.Tables.{Tally, tally-none, tally-most, tally-next, counted-length}
 use Rattle.machine.proofs.counts.tally.Statement.{statement}
 use Rattle.machine.proofs.counts.tally.Tie as tie
 
@@ -34,7 +34,9 @@ loop-again c =
 pub tally-spec : {M : Type 1} → statement M
 tally-spec =
     tie.close
-    (tie.spec Inv-loop μ-loop (λ c. (omega arith, λ l h. c .before .before .pre .2 l, refl)) (λ c κs. omega arith)
+    (tie.spec Inv-loop μ-loop
+    (λ c. let st = c .before .before in
+    (omega arith, tally-none (stepAt (st .args .list .now)) (st .args .table .now) (st .pre .2), refl)) (λ c κs. omega arith)
     count-store-requires (λ c. omega arith) (λ c. omega arith) loop-again
     (λ c. c .before .loop .inv .2)
     (λ c.

@@ -8,7 +8,7 @@ use Rattle.words.specs.Words.{storeWord}
 use Rattle.steps.specs.Model.{line, cut}
 use Rattle.steps.specs.Encoding.{stepAt}
 use Rattle.machine.specs.Taking.{arrived}
-use Rattle.machine.specs.Tables.{Tally, tally-most, tally-next, counted-length}
+use Rattle.machine.specs.Tables.{Tally, tally-none, tally-most, tally-next, counted-length}
 use Rattle.machine.specs.Lost.{arrives-by}
 use Rattle.machine.specs.Turns.{cut-next, cut-length}
 use Rattle.machine.proofs.memory.cut_on.Statement.{statement}
@@ -65,7 +65,8 @@ pub cut-on-spec : {M : Type 1} → statement M
 cut-on-spec =
     tie.close
     (tie.spec Inv-loop μ-loop
-    (λ c. (omega arith, refl, λ l h. c .before .before .before .before .pre .0 .zero l, refl))
+    (λ c. let st = c .before .before .before .before in
+    (omega arith, refl, tally-none (stepAt (st .args .list .now)) (st .args .seen .now) (st .pre .0 .zero), refl))
     (λ c κs. let st = c .before .before .before .before .before .before in omega (arith, st .pre .0 .taken .long))
     (λ c κs. tt)
     take-step-requires

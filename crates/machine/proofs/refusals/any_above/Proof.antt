@@ -6,10 +6,9 @@ use native.Mathlib.Omega.{arith}
 use borrow.Author.Needs.{needs}
 use borrow.Author.Tests.{lt-ltb, le-ltb}
 use lib.ListN.{length}
-use Rattle.steps.specs.Below.{anyBelow}
-use Rattle.steps.specs.BelowLaws.{any-make}
+use Rattle.words.specs.Below.{anyBelow}
+use Rattle.words.specs.BelowLaws.{any-make, any-next}
 use Rattle.machine.specs.Lost.{aboveBy}
-use Rattle.machine.specs.Turns.{any-next}
 use Rattle.machine.proofs.refusals.any_above.Statement.{statement}
 use Rattle.machine.proofs.refusals.any_above.Tie as tie
 
@@ -36,6 +35,7 @@ loop-again c =
     )
 
 pub any-above-spec : {M : Type 1} → statement M
+unfolding anyBelow
 any-above-spec =
     tie.close
     (tie.spec Inv-loop μ-loop (λ c. (omega arith, refl)) (λ c κs. tt) (λ c. search needs) (λ c. search needs) found

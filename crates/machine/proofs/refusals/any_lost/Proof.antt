@@ -4,12 +4,11 @@ use mathlib.Core.Bool.{false}
 use mathlib.Core.Path.{_≡_, refl, sym, ap, _∙_, subst}
 use native.Mathlib.Omega.{arith}
 use lib.ListN.{length}
-use Rattle.steps.specs.Below.{anyBelow}
-use Rattle.steps.specs.BelowLaws.{any-make}
+use Rattle.words.specs.Below.{anyBelow}
+use Rattle.words.specs.BelowLaws.{any-make, any-next}
 use Rattle.steps.specs.Encoding.{stepAt}
-use Rattle.machine.specs.Tables.{Tally, tally-most, tally-next, counted-length}
+use Rattle.machine.specs.Tables.{Tally, tally-none, tally-most, tally-next, counted-length}
 use Rattle.machine.specs.Lost.{lostAt, lost-by}
-use Rattle.machine.specs.Turns.{any-next}
 use Rattle.machine.proofs.refusals.any_lost.Statement.{statement}
 use Rattle.machine.proofs.refusals.any_lost.Tie as tie
 
@@ -64,10 +63,12 @@ loop-again c =
     )
 
 pub any-lost-spec : {M : Type 1} → statement M
+unfolding anyBelow
 any-lost-spec =
     tie.close
     (tie.spec Inv-loop μ-loop
-    (λ c. (omega arith, λ l h. c .before .before .before .before .pre .0 .zero l, refl, refl))
+    (λ c. let st = c .before .before .before .before in
+    (omega arith, tally-none (stepAt (st .args .list .now)) (st .args .seen .now) (st .pre .0 .zero), refl, refl))
     (λ c κs. let st = c .before .before .before .before .before .before in omega (arith, st .pre .0 .taken .long))
     (λ c κs. tt)
     (λ c. c .before .before .before .before .before .loop .inv .2)

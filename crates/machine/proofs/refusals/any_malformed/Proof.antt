@@ -3,10 +3,9 @@ use Prim.Native.Nat.{_≤_, _-_}
 use mathlib.Core.Bool.{false, not}
 use mathlib.Core.Path.{_≡_, refl, sym, ap, _∙_}
 use native.Mathlib.Omega.{arith}
-use Rattle.steps.specs.Below.{anyBelow}
-use Rattle.steps.specs.BelowLaws.{any-make}
+use Rattle.words.specs.Below.{anyBelow}
+use Rattle.words.specs.BelowLaws.{any-make, any-next}
 use Rattle.machine.specs.Taking.{malformed}
-use Rattle.machine.specs.Turns.{any-next}
 use Rattle.machine.proofs.refusals.any_malformed.Statement.{statement}
 use Rattle.machine.proofs.refusals.any_malformed.Tie as tie
 
@@ -33,6 +32,7 @@ loop-again c =
     )
 
 pub any-malformed-spec : {M : Type 1} → statement M
+unfolding anyBelow
 any-malformed-spec =
     tie.close
     (tie.spec Inv-loop μ-loop (λ c. (omega arith, refl)) (λ c κs. omega arith) found

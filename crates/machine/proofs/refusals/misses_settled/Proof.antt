@@ -3,7 +3,7 @@ use Prim.Native.Nat.{ℕ}
 use mathlib.Core.Path.{ap, _∙_}
 use native.Mathlib.Omega.{arith}
 use borrow.Author.Needs.{needs}
-use Rattle.steps.specs.Below.{anyBelow}
+use Rattle.words.specs.Below.{anyBelow}
 use Rattle.steps.specs.Encoding.{stepAt}
 use Rattle.steps.specs.LastFence.{fence-below}
 use Rattle.machine.specs.Fits.{taken-less}

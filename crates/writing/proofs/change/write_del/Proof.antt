@@ -4,8 +4,8 @@ use mathlib.Core.List.{List}
 use denote.Ref.{now}
 use Prim.Native.Nat.{ℕ}
 use Rattle.words.specs.Words.{reads}
+use Rattle.words.specs.Below.{countBelow}
 use Rattle.leaf.specs.Leaf.{occIn}
-use Rattle.leaf.specs.Search.{countTo}
 use Rattle.steps.specs.declared.Step.{Step}
 use Rattle.steps.specs.Encoding.{written}
 use Rattle.writing.specs.ChangeLaws.{alone-unlink, others-clear}
@@ -25,7 +25,7 @@ returns c =
     u .write-unlink .ensures r (a .block) (sym (h2 .head-in2 .ensures)) (sym (x .next-block .ensures))
     ∙ ap (λ (l : List Step). written l (now (a .list)))
     (alone-unlink r (a .before) (a .block) (a .s) (n .entries .result)
-    (n .entries .ensures ∙ ap (λ (z : ℕ). countTo (occIn z) 14) (h .head-in .ensures))
+    (n .entries .ensures ∙ ap (λ (z : ℕ). countBelow (occIn z) 14) (h .head-in .ensures))
     (sym (i .is-alone .ensures) ∙ x .before .if1 .taken))
 
 returns-2 : tie.Need-returns-2
@@ -39,7 +39,7 @@ returns-2 c =
     u .write-clear .ensures r (sym (h .head-in .ensures))
     ∙ ap (λ (l : List Step). written l (now (a .list)))
     (others-clear r (a .before) (a .block) (a .s) (n .entries .result)
-    (n .entries .ensures ∙ ap (λ (z : ℕ). countTo (occIn z) 14) (h .head-in .ensures))
+    (n .entries .ensures ∙ ap (λ (z : ℕ). countBelow (occIn z) 14) (h .head-in .ensures))
     (sym (i .is-alone .ensures) ∙ u .before .before .if1 .left))
 
 pub write-del-spec : {M : Type 1} → statement M
