@@ -132,15 +132,13 @@ unfolding copies
 copies-fit occ zero i t e a b = tt
 copies-fit occ (suc n) i t e a b =
     by-test
-    (λ x. occ t ≡ x
-    → Fits occ i t e (cond x (copies occ i (suc t) n) (record { from = i; to = t } ∷ copies occ (suc i) (suc t) n)))
+    (λ x. Fits occ i t e (cond x (copies occ i (suc t) n) (record { from = i; to = t } ∷ copies occ (suc i) (suc t) n)))
     (occ t)
-    (λ y p. fits-lower occ i t e (copies occ i (suc t) n) (copies-fit occ n i (suc t) e (omega arith) (omega arith)))
-    (λ y p.
+    (λ p. fits-lower occ i t e (copies occ i (suc t) n) (copies-fit occ n i (suc t) e (omega arith) (omega arith)))
+    (λ p.
     let more : Fits occ (suc i) (suc t) e (copies occ (suc i) (suc t) n) =
     copies-fit occ n (suc i) (suc t) e (omega arith) (omega arith) in
     (omega arith, omega arith, omega arith, omega arith, p, more))
-    refl
 
 pub moves-keeps : (occ : ℕ → Bool) (cs : List Copy) (L : Leaf) (i t e : ℕ) → Right L
     → ((j : ℕ) → i ≤ j → j < 3 → Taken L j) → ((q : ℕ) → t ≤ q → q < e → L .occ q ≡ occ q) → 3 ≤ t → e ≤ L .size

@@ -104,11 +104,9 @@ module _ (p : ℕ → Bool) where
   pub only-member : (l : List Entry) (k v : ℕ) → Member (only p l) k v → Member l k v × (p k ≡ true)
   unfolding only
   only-member (e ∷ l) k v h =
-      by-test (λ b. p (e .key) ≡ b → Member (cond b (e ∷ only p l) (only p l)) k v → Member (e ∷ l) k v × (p k ≡ true))
-      (p (e .key))
-      (λ x q m. elim m [ inl a ↦ (inl a, ap p (a .0) ∙ q) | inr b ↦ later (only-member l k v b) ])
-      (λ x q m. later (only-member l k v m))
-      refl
+      by-test (λ b. Member (cond b (e ∷ only p l) (only p l)) k v → Member (e ∷ l) k v × (p k ≡ true)) (p (e .key))
+      (λ q m. elim m [ inl a ↦ (inl a, ap p (a .0) ∙ q) | inr b ↦ later (only-member l k v b) ])
+      (λ q m. later (only-member l k v m))
       h
     where
       later : Member l k v × (p k ≡ true) → Member (e ∷ l) k v × (p k ≡ true)
@@ -206,10 +204,9 @@ module _ (k : ℕ) where
   unfolding lookup
   found-member [] v q = never cc
   found-member (e ∷ l) v q =
-      by-test (λ b. eqb (e .key) k ≡ b → cond b (some (e .val)) (lookup k l) ≡ some v → Member (e ∷ l) k v) (eqb (e .key) k)
-      (λ x t h. inl (sym (eqb-true (e .key) k t), cc))
-      (λ x t h. inr (found-member l v h))
-      refl
+      by-test (λ b. cond b (some (e .val)) (lookup k l) ≡ some v → Member (e ∷ l) k v) (eqb (e .key) k)
+      (λ t h. inl (sym (eqb-true (e .key) k t), cc))
+      (λ t h. inr (found-member l v h))
       q
 
   member-found : (lo : ℕ) (l : List Entry) (v : ℕ) → Sorted lo l → Member l k v → lookup k l ≡ some v

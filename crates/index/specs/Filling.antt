@@ -51,12 +51,10 @@ module _ (room : ℕ) where
   unfolding fill
   fill-append [] fs b = refl
   fill-append (e ∷ es) fs b = by-test
-      (λ t. ltb (b .used) room ≡ t
-      → cond t (fill room (es ++ fs) (entered e b)) b ≡ fill room fs (cond t (fill room es (entered e b)) b))
+      (λ t. cond t (fill room (es ++ fs) (entered e b)) b ≡ fill room fs (cond t (fill room es (entered e b)) b))
       (ltb (b .used) room)
-      (λ x h. fill-append es fs (entered e b))
-      (λ x h. sym (fill-full fs b (ltb-false (b .used) room h)))
-      refl
+      (λ h. fill-append es fs (entered e b))
+      (λ h. sym (fill-full fs b (ltb-false (b .used) room h)))
 
   -- what it comes to
   fill-is : (es : List Entry) (n : ℕ) (ks vs : List ℕ)

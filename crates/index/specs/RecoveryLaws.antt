@@ -1,6 +1,6 @@
 -- The notes of recovery's walk written out, and each answer, from the tests that led to it.
 use mathlib.Core.Path.{_≡_, refl, sym, ap, _∙_, subst}
-use mathlib.Core.Bool.{Bool, true, false, cond, not, _||_}
+use mathlib.Core.Bool.{Bool, true, false, cond, not}
 use mathlib.Core.List.{List, [], _∷_, map}
 use Prim.Native.Nat.{ℕ, zero, suc, _+_, _-_, _≤_, _<_}
 use native.Mathlib.Decide.{ℕ-discrete, decLt}
@@ -9,7 +9,7 @@ use borrow.Author.Tests.{ltb-false}
 use lib.Dec.{ltb, eqb}
 use lib.ListN.{length, getD, set, drop, length-set, length-append, length-drop, length-map, List·getD-append}
 use lib.Seq.{getD-set-same, getD-set-other, getD-append-add, getD-drop, ext-getD}
-use Rattle.words.specs.Bools.{by-test, differ}
+use Rattle.words.specs.Bools.{or-false}
 use Rattle.leaf.specs.Search.{smallestOf}
 use Rattle.steps.specs.Refusals.{badImage, row-given, row-left}
 use Rattle.survey.specs.Walk.{start, surveyed, visited, NotedTo, Noted}
@@ -108,11 +108,7 @@ module _ (l : List ℕ) (fine : badImage (length l) ≡ false) (sound : surveyed
 
 -- enough room
 pub not-short : (N a b : ℕ) → isShort N a b ≡ false → (N ≤ a) × (N ≤ b)
-not-short N a b e = by-test (λ t. ltb a N ≡ t → (t || ltb b N) ≡ false → (N ≤ a) × (N ≤ b)) (ltb a N)
-    (λ x h z. differ z)
-    (λ x h z. (ltb-false a N h, ltb-false b N z))
-    refl
-    e
+not-short N a b e = let h = or-false (ltb a N) (ltb b N) e in (ltb-false a N (h .0), ltb-false b N (h .1))
 
 module _ (l : List ℕ) (ks vs : List ℕ) where
   -- the outcome by the answer, where this is the number of the entries

@@ -4,7 +4,7 @@ use native.Mathlib.Omega.{arith}
 use native.Mathlib.Decide.{ℕ-discrete}
 use mathlib.Core.Bool.{false}
 use mathlib.Core.List.{List, [], _∷_, _++_, append-nil}
-use mathlib.Core.Path.{_≡_, refl, sym, _∙_, subst}
+use mathlib.Core.Path.{_≡_, sym, _∙_, subst}
 use mathlib.Core.Logic.{_≢_}
 use lib.ListN.{length}
 use Rattle.words.specs.Bools.{by-test}
@@ -116,12 +116,10 @@ module _ (rule : Rule) (L : Lawful rule) (w : ℕ → ℕ) (small : Small w) (N 
       (λ e.
       let full = none-vacant w b e in
       by-test
-      (λ t. goesUp (view w b) k ≡ t
-      → Served rule w N (xs ++ (b ∷ ys)) (splitList w b c k v ++ putBelow t w b c k v)
+      (λ t. Served rule w N (xs ++ (b ∷ ys)) (splitList w b c k v ++ putBelow t w b c k v)
       (putIn k v (listOf (view w) (xs ++ (b ∷ ys)))) perPut)
       (goesUp (view w b) k)
-      (λ t u.
+      (λ u.
       rw append-nil
       (up-served rule L w small N some most xs b c ys S (room full .1) (room full .0) full k v key val u target absent))
-      (λ t u. below-served full u)
-      refl)
+      (below-served full))

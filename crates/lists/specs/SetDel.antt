@@ -129,18 +129,17 @@ pub del-served : (rule : Rule) → Lawful rule → (w : ℕ → ℕ) → Small w
 unfolding delList isAlone
 del-served rule L w small N some xs p b ys S before s taken =
     by-test
-    (λ t. isAlone w b ≡ t
-    → Served rule w N (xs ++ (b ∷ ys)) (cond t (unlinkList w p b) (clearList w b s))
+    (λ t. Served rule w N (xs ++ (b ∷ ys)) (cond t (unlinkList w p b) (clearList w b s))
     (without (view w b .key s) (listOf (view w) (xs ++ (b ∷ ys)))) perChange)
     (isAlone w b)
-    (λ t e.
+    (λ e.
     let x = both-true (not (eqb b 0)) (eqb (count (view w b)) 1) e in
     let y : Behind xs p = before (eqb-false b 0 (not-true (eqb b 0) (x .0))) in
     let q : xs ++ (b ∷ ys) ≡ y .init ++ (p ∷ b ∷ ys) =
     ap (λ (l : List ℕ). l ++ (b ∷ ys)) (y .is) ∙ append-assoc (y .init) (p ∷ []) (b ∷ ys) in
     rw q
     (unlink-served rule L w small N some (y .init) p b ys (rw q at S) s taken (eqb-true (count (view w b)) 1 (x .1))))
-    (λ t e.
+    (λ e.
     clear-served rule L w small N some xs b ys S s taken (elim (ℕ-discrete b 0) [
       | yes z ↦ inl z
       | no nz ↦ elim (ℕ-discrete (count (view w b)) 1) [
@@ -148,7 +147,6 @@ del-served rule L w small N some xs p b ys S before s taken =
         | no o ↦ inr (omega (arith, filled nz))
       ]
     ]))
-    refl
   where
     filled : b ≢ 0 → 0 < count (view w b)
     filled nz =

@@ -11,7 +11,7 @@ use lib.Dec.{leb, eqb}
 use lib.ListN.{length, getD, set, drop, length-set, length-drop}
 use lib.Seq.{getD-set-same, getD-set-other, getD-drop, drop-drop}
 use Rattle.words.specs.Update.{upd}
-use Rattle.words.specs.Bools.{both, by-test}
+use Rattle.words.specs.Bools.{bit, both, by-test}
 use Rattle.words.specs.Below.{countBelow}
 use Rattle.words.specs.BelowLaws.{count-most}
 use Rattle.header.specs.Header.{isLocked}
@@ -27,22 +27,20 @@ use Rattle.survey.specs.Walk.{State, stopped, moved, firstFault, againBy
 pub fault-near : (N next head : ℕ) (twin : Bool) (t : Tally) (low : ℕ) (st : State) → faultBy N next head twin t low st ≡ 0
     → next < N
 fault-near N next head twin t low st e = by-test
-    (λ b. leb N next ≡ b → firstFault b (againBy st next) (isLocked head) (bareBy st (t .entries))
+    (λ b. firstFault b (againBy st next) (isLocked head) (bareBy st (t .entries))
     (not (eqb (t .wrong) 0)) twin (lowBy st low) ≡ 0 → next < N)
     (leb N next)
-    (λ x q z. absurd (omega arith))
-    (λ x q z. leb-false N next q)
-    refl
+    (λ q z. absurd (omega arith))
+    (λ q z. leb-false N next q)
     e
 
 pub fault-far : (L : Leaf) (N : ℕ) (st : State) → faultOf L N st ≡ 0 → L .next < N
 unfolding faultOf
 fault-far L N st e = by-test
-    (λ b. leb N (L .next) ≡ b → cond b 31 rest ≡ 0 → L .next < N)
+    (λ b. cond b 31 rest ≡ 0 → L .next < N)
     (leb N (L .next))
-    (λ x q z. absurd (omega arith))
-    (λ x q z. leb-false N (L .next) q)
-    refl
+    (λ q z. absurd (omega arith))
+    (λ q z. leb-false N (L .next) q)
     e
   where
     rest : ℕ
@@ -55,9 +53,9 @@ module _ (L : Leaf) (t : Tally) (tells : Tells L t) (small : (s : ℕ) → L .ke
   reached-is : eqb (reachedBy t x) 0 ≡ eqb (countBelow (atMost L x) (L .size)) 0
   unfolding count
   reached-is =
-      ap (λ (b : Bool). eqb (cond b 1 0) 0)
+      ap (λ (b : Bool). eqb (bit b) 0)
       ((λ i. both (not (eqb (tells .entries i) 0)) (leb (tells .least i) x)) ∙ least-reaches L (L .size) x small)
-      ∙ by-test (λ z. eqb (cond (not z) 1 0) 0 ≡ z) (eqb (countBelow (atMost L x) (L .size)) 0) (λ e. refl) (λ e. refl)
+      ∙ by-test (λ z. eqb (bit (not z)) 0 ≡ z) (eqb (countBelow (atMost L x) (L .size)) 0) (λ e. refl) (λ e. refl)
 
 pub smallest-told : (L : Leaf) (t : Tally) → Tells L t → ((s : ℕ) → L .key s ≤ 18446744073709551615) → smallestBy t ≡ smallestOf L
 smallest-told L t tells small = (λ i. cond (eqb (tells .entries i) 0) 0 (tells .least i)) ∙ smallest-is L small
@@ -128,10 +126,10 @@ pick-below false x y N a b = b
 judged-bounded : (w : ℕ → ℕ) (b N key i : ℕ) (st : State) → Bounded N i st → Bounded N (i + 1) (judged (view w b) N key st)
 unfolding judged
 judged-bounded w b N key i st B =
-    by-test (λ x. eqb (faultOf L N st) 0 ≡ x → Bounded N (i + 1)
+    by-test (λ x. Bounded N (i + 1)
     (cond x (moved (L .next) (count L) reached most st) (stopped (faultOf L N st) st)))
     (eqb (faultOf L N st) 0)
-    (λ x e. record {
+    (λ e. record {
       at = near (eqb-true (faultOf L N st) 0 e);
       prev = B .at;
       target = pick-below (eqb reached 0) (st .target) (st .at) N (B .target) (B .at);
@@ -139,7 +137,7 @@ judged-bounded w b N key i st B =
       leaves = omega (arith, B .leaves);
       entries = omega (arith, B .entries, few);
     })
-    (λ x e. record {
+    (λ e. record {
       at = B .at;
       prev = B .prev;
       target = B .target;
@@ -147,7 +145,6 @@ judged-bounded w b N key i st B =
       leaves = omega (arith, B .leaves);
       entries = omega (arith, B .entries);
     })
-    refl
   where
     L : Leaf
     L = view w b

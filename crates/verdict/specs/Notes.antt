@@ -192,13 +192,12 @@ module _ (I : ℕ → Leaf) (N key : ℕ) (inside : (b s : ℕ) → Taken (I b) 
       aimed : Aim I key (xs ++ (st .at ∷ [])) (cond (eqb reached 0) (st .target) (st .at))
           (cond (eqb reached 0) (st .before) (st .prev))
       aimed = by-test
-          (λ b. eqb reached 0 ≡ b → Aim I key (xs ++ (st .at ∷ [])) (cond b (st .target) (st .at)) (cond b (st .before) (st .prev)))
+          (λ b. Aim I key (xs ++ (st .at ∷ [])) (cond b (st .target) (st .at)) (cond b (st .before) (st .prev)))
           (eqb reached 0)
-          (λ x e. further (eqb-true reached 0 e) (n .aim))
-          (λ x e.
+          (λ e. further (eqb-true reached 0 e) (n .aim))
+          (λ e.
           let r = some-at-most L key (L .size) (positive reached (eqb-false reached 0 e)) in
           here xs [] refl (n .prev) (L .key (r .0), L .val (r .0), entry (r .0) (r .2), r .3) (λ j u h. absurd h))
-          refl
 
       upper : (j u : ℕ) → Has I (xs ++ (st .at ∷ [])) j u → j ≤ cond (eqb (count L) 0) (st .last) most
       upper j u h = elim (ℕ-discrete (count L) 0) [

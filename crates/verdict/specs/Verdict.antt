@@ -1,6 +1,6 @@
 -- The walk ends with the stage 1 exactly when the image is sound; then it has walked the chain, and its notes are the chain's.
 use mathlib.Core.Path.{_≡_, refl, sym, ap, _∙_, subst}
-use mathlib.Core.Bool.{Bool, true, false, cond, not}
+use mathlib.Core.Bool.{Bool, true, false, not}
 use mathlib.Core.List.{List, [], _∷_, _++_}
 use mathlib.Core.Logic.{_≢_}
 use Prim.Native.Nat.{ℕ, zero, suc, _+_, _≤_, _<_}
@@ -9,7 +9,7 @@ use native.Mathlib.Omega.{arith}
 use borrow.Author.Tests.{eq-eqb, ne-eqb}
 use lib.ListN.{length, length-append}
 use Rattle.words.specs.Update.{upd-other}
-use Rattle.words.specs.Bools.{both, differ, not-so}
+use Rattle.words.specs.Bools.{bit, both, differ, not-so}
 use Rattle.words.specs.Below.{countBelow}
 use Rattle.leaf.specs.Leaf.{Leaf, Taken}
 use Rattle.leaf.specs.Search.{count}
@@ -78,13 +78,13 @@ module _ (I : ℕ → Leaf) (N key : ℕ) (inside : (b s : ℕ) → Taken (I b) 
     turn-on s new = elim (ℕ-discrete (L .next) 0) [
       | yes z ↦ ends (xs ++ (st .at ∷ [])) (record {
         notes = notes-on I N key inside xs st (g .notes) s;
-        stage = ap (λ (b : Bool). cond b 1 0) (eq-eqb (L .next) 0 z);
+        stage = ap bit (eq-eqb (L .next) 0 z);
         at = z;
         some = omega (arith, length-append xs (st .at ∷ []));
       })
       | no nz ↦ goes (xs ++ (st .at ∷ [])) (record {
         notes = notes-on I N key inside xs st (g .notes) s;
-        stage = ap (λ (b : Bool). cond b 1 0) (ne-eqb (L .next) 0 nz);
+        stage = ap bit (ne-eqb (L .next) 0 nz);
         onward = later xs nz;
         fresh = unmet (L .next) (sym (ap (λ (b : Bool). both (not b) (st .met (L .next))) (ne-eqb (L .next) 0 nz)) ∙ new);
       }) (length-append xs (st .at ∷ []))

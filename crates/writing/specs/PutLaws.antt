@@ -40,19 +40,17 @@ use Rattle.writing.specs.declared.Made.the-variants.{BadImage, ShortList
 among-met : (f : ℕ → Bool) (b : ℕ) (xs : List ℕ) → All (λ x. f x ≡ true) xs → isAmong b xs ≡ true → f b ≡ true
 among-met f b [] a e = differ (sym e)
 among-met f b (x ∷ xs) a e =
-    by-test (λ t. eqb x b ≡ t → cond t true (isAmong b xs) ≡ true → f b ≡ true) (eqb x b)
-    (λ u q z. sym (ap f (eqb-true x b q)) ∙ a .0)
-    (λ u q z. among-met f b xs (a .1) z)
-    refl
+    by-test (λ t. cond t true (isAmong b xs) ≡ true → f b ≡ true) (eqb x b)
+    (λ q z. sym (ap f (eqb-true x b q)) ∙ a .0)
+    (λ q z. among-met f b xs (a .1) z)
     e
 
 pub not-among : (b : ℕ) (xs : List ℕ) → isAmong b xs ≡ false → All (λ x. x ≢ b) xs
 not-among b [] e = tt
 not-among b (x ∷ xs) e =
-    by-test (λ t. eqb x b ≡ t → cond t true (isAmong b xs) ≡ false → (x ≢ b) × All (λ y. y ≢ b) xs) (eqb x b)
-    (λ u q z. differ z)
-    (λ u q z. (eqb-false x b q, not-among b xs z))
-    refl
+    by-test (λ t. cond t true (isAmong b xs) ≡ false → (x ≢ b) × All (λ y. y ≢ b) xs) (eqb x b)
+    (λ q z. differ z)
+    (λ q z. (eqb-false x b q, not-among b xs z))
     e
 
 first-among : (xs : List ℕ) → Starts xs → isAmong 0 xs ≡ true
@@ -63,13 +61,12 @@ module _ (l : List ℕ) (k : ℕ) (fine : badImage (length l) ≡ false) (e : su
   -- the blocks met are those of the chain
   met-among : (b : ℕ) → surveyed (leaves l) (blocks l) k .met b ≡ isAmong b (survey-sound l k fine e .chain)
   met-among b =
-      by-test (λ t. isAmong b (s .chain) ≡ t → surveyed (leaves l) (blocks l) k .met b ≡ t) (isAmong b (s .chain))
-      (λ u q. among-met (surveyed (leaves l) (blocks l) k .met) b (s .chain) (s .notes .met-all) q)
-      (λ u q. not-so (surveyed (leaves l) (blocks l) k .met b) (λ m.
+      by-test (λ t. surveyed (leaves l) (blocks l) k .met b ≡ t) (isAmong b (s .chain))
+      (among-met (surveyed (leaves l) (blocks l) k .met) b (s .chain) (s .notes .met-all))
+      (λ q. not-so (surveyed (leaves l) (blocks l) k .met b) (λ m.
       s .notes .met-only b m (λ z. differ
       (sym (first-among (s .chain) (s .sound .starts)) ∙ ap (λ (c : ℕ). isAmong c (s .chain)) (sym (z ∙ s .ended)) ∙ q))
       (not-among b (s .chain) q)))
-      refl
     where
       s : Surveyed l k
       s = survey-sound l k fine e
