@@ -42,7 +42,8 @@ fn enter(leaf: &mut [u8], s: usize, key: u64, print: u8)
     words::set_word(leaf, 8, head.high);
 }
 
-// Entries, smallest key (the largest word where there is none), lowest vacant slot, slots with a wrong fingerprint, whether two keys are equal.
+// Entries, smallest key (the largest word where there is none), lowest vacant slot, slots with a wrong fingerprint, whether two
+// keys are equal.
 fn tell_leaf(leaf: &[u8])
     requires { ⌜ 256 ≤ length (now leaf) ⌝ }
 {
