@@ -22,10 +22,6 @@ module _ (l : List ℕ) (h : ℕ) (head : h ≡ headAt l 0) where
   unfolding leafIn reads headAt
   in-occ s b = rw head (sym (occ-in (headAt l 0) s b))
 
-  pub in-occs : occIn h ≡ leafIn l .occ
-  unfolding leafIn reads headAt
-  in-occs = rw head refl
-
   pub in-fp : (s : ℕ) → fingerprintIn h s ≡ leafIn l .fp s
   unfolding leafIn reads headAt
   in-fp s = rw head refl

@@ -1,2 +1,2 @@
--- Places: what the code promises (`Ordered`, by image's `slotsFrom`), and the laws of a slot's place, by how many keys are smaller.
-pub mod Places
+-- Insertion: what the code promises (`Ordered`, by image's `slotsFrom`), and the laws of putting in one slot more.
+pub mod Insertion

@@ -14,7 +14,7 @@ use Rattle.leaf.specs.Search.{count}
 use Rattle.steps.specs.declared.Step.{Step}
 use Rattle.steps.specs.Encoding.{written}
 use Rattle.image.specs.Order.{slotsFrom, slotsOf, slots-count}
-use Rattle.order.specs.Places.{Ordered, slots-below}
+use Rattle.order.specs.Insertion.{Ordered, slots-below}
 use Rattle.lists.specs.Lists.{headIn, plainPut}
 use Rattle.lists.specs.FullLists.{movedSlots, firstKey, goesUp, splitList, putBelow, fullPut}
 use Rattle.lists.specs.FullPut.{moved}

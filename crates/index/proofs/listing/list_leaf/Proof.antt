@@ -4,7 +4,7 @@ use mathlib.Core.Path.{ap, _∙_}
 use mathlib.Core.List.{List}
 use denote.Ref.{now}
 use Rattle.image.specs.Map.{Entry}
-use Rattle.order.specs.Places.{slots-below}
+use Rattle.order.specs.Insertion.{slots-below}
 use Rattle.index.specs.Filling.{buffers, fill}
 use Rattle.index.specs.ListingLaws.{order-lists}
 use Rattle.index.proofs.listing.list_leaf.Statement.{statement}
