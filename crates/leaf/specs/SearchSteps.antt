@@ -10,7 +10,7 @@ use lib.Dec.{eqb}
 use Rattle.words.specs.Words.{wordAt, reads}
 use Rattle.words.specs.WordLaws.{Bytes, word-small}
 use Rattle.header.specs.Header.{headAt, altIn, isLocked, isOccupied, fingerprintIn, fingerprintOf}
-use Rattle.leaf.specs.Leaf.{Leaf, occIn, leafIn}
+use Rattle.leaf.specs.Leaf.{Leaf, leafIn}
 use Rattle.leaf.specs.LeafLaws.{occ-in}
 use Rattle.leaf.specs.Search.{pickSlot, lowest, holdsKey, slotOf}
 use Rattle.leaf.specs.declared.search.Slot.the-variants.{At, Missing}

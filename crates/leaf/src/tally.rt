@@ -51,7 +51,7 @@ fn print_at(leaf: &[u8], s: usize) -> u8
 }
 
 // The fingerprint that the key of slot s has, whatever stands in the header.
-fn own_print(leaf: &[u8], s: usize) -> u8
+pub fn own_print(leaf: &[u8], s: usize) -> u8
     requires { ⌜ (256 ≤ length (now leaf)) × (s < 14) ⌝ }
     ensures { λ r. ⌜ r ≡ fingerprintOf (leafIn (now (leaf .entry)) .key s) ⌝ }
 {

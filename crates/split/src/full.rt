@@ -33,9 +33,10 @@ pub fn write_full_put(
     order_from(leaf, 0, &mut order);
     let moved = &order[7..14];
     let up = key_at(leaf, moved[0] as usize) < key;
-    write_split(list, head, leaf, moved, block, new, up, key, value);
+    let left = old_head(head, moved);
+    write_split(list, head, left, leaf, moved, block, new, up, key, value);
     if up {
         return 42;
     }
-    42 + append_plain_put(list, 42, old_head(head, moved), leaf, block, key, value)
+    42 + append_plain_put(list, 42, left, leaf, block, key, value)
 }

@@ -1,7 +1,7 @@
 // The headers of a split's two leaves. The moved slots are all below 14.
 use header::Header;
 use header::fingerprint_of;
-use leaf::search::key_at;
+use leaf::tally::own_print;
 ghost use mathlib.Core.Path.{_≡_};
 ghost use Prim.Native.Nat.{ℕ, _≤_, _<_};
 ghost use lib.ListN.{length, getD};
@@ -17,7 +17,7 @@ fn upper_head(leaf: &[u8], moved: &[u64]) -> Header
     let mut head = Header { low: 0, high: 0 };
     let mut i: usize = 0;
     while i < 7 {
-        head = head.mark(7 + i, fingerprint_of(key_at(leaf, moved[i] as usize)));
+        head = head.mark(7 + i, own_print(leaf, moved[i] as usize));
         i += 1;
     }
     head

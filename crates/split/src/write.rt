@@ -1,6 +1,5 @@
 // The steps of a split, each at its place in the list: 32 stores of the new leaf, the link, the write-backs, the switch.
 use crate::heads::new_head;
-use crate::heads::old_head;
 use emit::head::word0;
 use emit::head::word1;
 use emit::short::append_store;
@@ -16,7 +15,7 @@ ghost use mathlib.Core.Bool.{cond};
 ghost use mathlib.Core.List.{[], _∷_, _++_};
 ghost use Prim.Native.Nat.{ℕ, _+_, _*_, _≤_, _<_};
 ghost use lib.ListN.{length, getD, replicate};
-ghost use Rattle.header.specs.Header.{bitsOf, headAt};
+ghost use Rattle.header.specs.Header.{bitsOf, headAt, flipped, clearedAll};
 ghost use Rattle.leaf.specs.Leaf.{leafIn, view};
 ghost use Rattle.steps.specs.declared.Step.the-variants.{Fence as fence};
 ghost use Rattle.steps.specs.Encoding.{written};
@@ -139,10 +138,12 @@ fn append_backs(list: &mut [u64], at: usize, old: u64, new: u64)
     put_step(list, at + 5, Step::Fence);
 }
 
-// The whole split: 42 steps. The moved slots and whether the new key goes up with them are the leaf's.
+// The whole split: 42 steps. The moved slots and whether the new key goes up with them are the leaf's, and so is the header that it
+// is left with.
 pub fn write_split(
     list: &mut [u64],
     head: Header,
+    left: Header,
     leaf: &[u8],
     moved: &[u64],
     block: u64,
@@ -153,7 +154,8 @@ pub fn write_split(
 )
     requires { ⌜ (84 ≤ length (now list)) × (256 ≤ length (now leaf)) × (length (now moved) ≡ 7)
         × ((i : ℕ) → getD (now moved) i 0 < 14) × (block < 256) × (new < 256) × (bitsOf head ≡ headAt (now leaf) 0)
-        × (now moved ≡ movedSlots (leafIn (now leaf))) × (up ≡ goesUp (leafIn (now leaf)) key) ⌝ }
+        × (now moved ≡ movedSlots (leafIn (now leaf))) × (up ≡ goesUp (leafIn (now leaf)) key)
+        × (bitsOf left ≡ flipped (clearedAll (bitsOf head) (now moved))) ⌝ }
     ensures { λ _. ⌜ ((w : ℕ → ℕ) → headIn w block ≡ bitsOf head → view w block ≡ leafIn (now (leaf .entry))
         → now (list .exit) ≡ written (splitList w block new key value) (now (list .entry))) ⌝ }
 {
@@ -165,5 +167,5 @@ pub fn write_split(
         Step::Store(place + Leaf::sibling_word(1 - head.alt()), new),
     );
     append_backs(list, 33, block, new);
-    append_store(list, 39, place, word0(old_head(head, moved)));
+    append_store(list, 39, place, word0(left));
 }

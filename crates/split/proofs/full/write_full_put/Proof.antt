@@ -9,7 +9,8 @@ use Rattle.split.proofs.full.write_full_put.Tie as tie
 
 write-split-requires : tie.Need-write-split-requires
 write-split-requires c κs =
-    let k = c .before in
+    let h = c .before in
+    let k = h .before in
     let o = k .before .before .before .before .before in
     let s = o .before .before .before .before in
     let l = s .args .leaf .now in
@@ -23,12 +24,13 @@ write-split-requires c κs =
       s .pre .4,
       m .are,
       up-is (leafIn l) _ (s .args .key) (k .key-at .result) m (k .key-at .ensures),
+      h .old-head .ensures,
     )
 
 returns : tie.Need-returns
 returns c =
     let x = c .before .before .before in
-    let k = x .before .before in
+    let k = x .before .before .before in
     let o = k .before .before .before .before .before in
     let s = o .before .before .before .before in
     let a = s .args in
@@ -42,10 +44,10 @@ returns c =
 returns-2 : tie.Need-returns-2
 returns-2 c =
     let p = c .before .before in
-    let h = p .before in
-    let i = h .before .before in
+    let i = p .before .before in
     let x = i .before .before .before in
-    let k = x .before .before in
+    let h = x .before .before in
+    let k = h .before in
     let o = k .before .before .before .before .before in
     let s = o .before .before .before .before in
     let a = s .args in
@@ -68,10 +70,7 @@ write-full-put-spec =
     (λ c κs. let o = c .before .before .before .before in let s = o .before .before .before .before in
     let m = the-moved (s .args .leaf .now) (s .pre .5) (s .pre .6) _ _ (o .order-from .ensures) in
     (omega arith, m .below 0))
-    write-split-requires (λ c. search needs) returns
-    (λ c κs. let k = c .before .before .before .before .before .before in
-    let o = k .before .before .before .before .before in
-    let s = o .before .before .before .before in
+    (λ c κs. let o = c .before .before .before .before .before in let s = o .before .before .before .before in
     let m = the-moved (s .args .leaf .now) (s .pre .5) (s .pre .6) _ _ (o .order-from .ensures) in
     (m .seven, m .below))
-    (λ c κs. search needs) (λ c. search needs) (λ c. search needs) returns-2)
+    write-split-requires (λ c. search needs) returns (λ c κs. search needs) (λ c. search needs) (λ c. search needs) returns-2)

@@ -3,7 +3,7 @@ use native.Mathlib.Omega.{arith}
 use Prim.Native.Nat.{ℕ, _+_, _-_, _≤_}
 use mathlib.Core.Path.{_≡_, refl, sym, ap, _∙_}
 use lib.ListN.{drop}
-use Rattle.header.specs.Header.{bitsOf, marked, fingerprintOf}
+use Rattle.header.specs.Header.{bitsOf, marked}
 use Rattle.leaf.specs.Leaf.{leafIn}
 use Rattle.lists.specs.FullLists.{markedFrom}
 use Rattle.split.specs.Heads.{drop-end, marked-next}
@@ -20,14 +20,12 @@ abbrev μ-loop : tie.MeasureT-loop
 loop-again : tie.Need-loop-again Inv-loop μ-loop
 loop-again c =
     let f = c .before in
-    let k = f .before in
-    let b = k .before .before .before in
+    let b = f .before .before .before in
     let a = b .before .before .before .args in (
       omega arith,
       marked-next (a .moved .now) (b .loop .i) (omega arith) (leafIn (a .leaf .now)) (bitsOf (b .loop .head)) _ _
           (c .mark .ensures
-          ∙ ap (λ (g : ℕ). marked (bitsOf (b .loop .head)) (7 + b .loop .i) g) (f .fingerprint-of .ensures
-          ∙ ap fingerprintOf (k .key-at .ensures)))
+          ∙ ap (λ (g : ℕ). marked (bitsOf (b .loop .head)) (7 + b .loop .i) g) (f .own-print .ensures))
           (b .loop .inv .1),
     )
 
@@ -45,4 +43,4 @@ upper-head-spec =
     (tie.spec
     Inv-loop μ-loop (λ c. (omega arith, refl)) (λ c. omega arith) (λ c. omega arith) (λ c. omega arith)
     (λ c κs. let b = c .before .before in (omega arith, b .before .before .before .pre .2 (b .loop .i)))
-    (λ c κs. search needs) (λ c κs. omega arith) (λ c. omega arith) (λ c. omega arith) loop-again returns)
+    (λ c κs. omega arith) (λ c. omega arith) (λ c. omega arith) loop-again returns)

@@ -19,18 +19,11 @@ write-new-leaf-requires c κs =
     let s = c .before .before .before .before in
     (omega arith, omega arith, s .pre .2, s .pre .3, omega arith, s .pre .6)
 
-old-head-requires : tie.Need-old-head-requires
-old-head-requires c κs =
-    let two = c .before .before .before .before .before .before .before in
-    let s = two .before .before .before .before .before .before .before .before .before .before .before in
-    (s .pre .2, s .pre .3)
-
 returns : tie.Need-returns
 returns c = λ w eh ev.
     let four = c .before .before in
     let z = four .before in
-    let o = z .before in
-    let three = o .before .before .before .before in
+    let three = z .before .before .before .before in
     let two = three .before .before .before .before in
     let n = two .before in
     let t = n .before in
@@ -51,7 +44,7 @@ returns c = λ w eh ev.
     (four .append-store .ensures)
     (start-place (a .block))
     (z .word0 .ensures
-    ∙ ap lowWord (o .old-head .ensures
+    ∙ ap lowWord (s .pre .9
     ∙ switched-same w (a .block) (a .new) (a .key) (a .value) (bitsOf (a .head)) L (a .moved .now) eh ev (s .pre .7)))
 
 pub write-split-spec : {M : Type 1} → statement M
@@ -61,5 +54,5 @@ write-split-spec =
     write-new-leaf-requires (λ c. search needs) (λ c κs. search needs)
     (λ c. let s = c .before .before .before .before .before .before .before .before .before in
     omega (arith, alt-lt (bitsOf (s .args .head)), c .alt .ensures))
-    (λ c κs. search needs) (λ c. search needs) (λ c κs. search needs) (λ c κs. search needs) old-head-requires
+    (λ c κs. search needs) (λ c. search needs) (λ c κs. search needs) (λ c κs. search needs)
     (λ c κs. search needs) (λ c κs. search needs) (λ c. search needs) returns)
