@@ -1,11 +1,15 @@
 -- A set of block numbers as one number: bit b says that b is in it. Four words hold it.
-use mathlib.Core.Path.{_≡_, refl, sym, ap, _∙_, fun-ext}
+use mathlib.Core.Path.{_≡_, refl, sym, ap, ap₂, _∙_, fun-ext}
 use mathlib.Core.Bool.{Bool, true, false, not}
-use Prim.Native.Nat.{ℕ, _+_, _-_, _^_, _≤_, _<_}
+use mathlib.Core.List.{List, [], _∷_}
+use Prim.Native.Nat.{ℕ, zero, suc, _+_, _-_, _*_, _/_, _%_, _^_, _≤_, _<_, max}
 use native.Mathlib.Decide.{ℕ-discrete, decLt}
-use native.Mathlib.Nat.{zero-add, zero-div}
+use native.Mathlib.Nat.{zero-add, zero-div, mod-lt, add-mul, mul-assoc}
 use native.Mathlib.Omega.{arith}
+use lib.Bits.{bitOr, or-block, or-step, or-zero-r}
 use lib.Dec.{eqb, lit<}
+use lib.ListN.{length, getD, set}
+use lib.Pow.{pow-pos, pow-add, split, shr-shr}
 use Rattle.words.specs.Update.{upd, upd-same, upd-other}
 use Rattle.header.specs.Fields.{field, patched}
 use Rattle.header.specs.FieldLaws.{field-patched, field-apart}
@@ -17,11 +21,12 @@ use Rattle.leaf.specs.SearchLaws.{lowest-is, lowest-not}
 use Rattle.leaf.specs.declared.search.Slot.the-variants.{At, Missing}
 use Rattle.survey.specs.declared.marks.Marks.{Marks}
 
-abbrev pub marksOf : ℕ → ℕ → ℕ → ℕ → ℕ
-marksOf a b c d = whole a (whole b (whole c d))
+unfoldable pub wordsIn : List ℕ → ℕ
+wordsIn [] = 0
+wordsIn (w ∷ l) = whole w (wordsIn l)
 
 abbrev pub blocksIn : Marks → ℕ
-blocksIn m = marksOf (m .a) (m .b) (m .c) (m .d)
+blocksIn m = wordsIn (m .a ∷ m .b ∷ m .c ∷ m .d ∷ [])
 
 unfoldable pub isIn : ℕ → ℕ → Bool
 isIn n b = eqb (field n b 1) 1
@@ -40,49 +45,76 @@ pub in-none : isIn 0 ≡ (λ b. false)
 unfolding isIn field
 in-none = fun-ext (λ b. rw (zero-div (2 ^ b)) refl)
 
--- ---- the four words
+-- ---- the words
 
-module _ (a b c d x : ℕ) (sa : a < 2 ^ 64) (sb : b < 2 ^ 64) (sc : c < 2 ^ 64) where
-  step : (y z l h : ℕ) → l < 2 ^ 64 → y ≡ 64 + z → field (whole l h) y 1 ≡ field h z 1
-  step y z l h s e = rw e (field-high l h z 1 s)
+abbrev pub Fit : List ℕ → Type 0
+Fit l = (i : ℕ) → getD l i 0 < 2 ^ 64
 
-  up : (y z l h : ℕ) → l < 2 ^ 64 → y ≡ 64 + z → patched (whole l h) y 1 1 ≡ whole l (patched h z 1 1)
-  up y z l h s e = rw e (patched-high l h z 1 s 1)
+pub four-in : (l : List ℕ) → length l ≡ 4 → wordsIn (getD l 0 0 ∷ getD l 1 0 ∷ getD l 2 0 ∷ getD l 3 0 ∷ []) ≡ wordsIn l
+four-in [] e = absurd (omega arith)
+four-in (a ∷ []) e = absurd (omega arith)
+four-in (a ∷ b ∷ []) e = absurd (omega arith)
+four-in (a ∷ b ∷ c ∷ []) e = absurd (omega arith)
+four-in (a ∷ b ∷ c ∷ d ∷ []) e = refl
+four-in (a ∷ b ∷ c ∷ d ∷ f ∷ l) e = absurd (omega arith)
 
-  pub has-a : x < 64 → eqb (field a x 1) 1 ≡ isIn (marksOf a b c d) x
-  unfolding isIn
-  has-a h = ap (λ (n : ℕ). eqb n 1) (sym (field-low a (whole b (whole c d)) x 1 sa (omega arith)))
+-- the bit of x stands in word x / 64
+word-field : (l : List ℕ) (x : ℕ) → x / 64 < length l → Fit l → field (getD l (x / 64) 0) (x % 64) 1 ≡ field (wordsIn l) x 1
+unfolding wordsIn
+word-field [] x b s = absurd (omega arith)
+word-field (w ∷ l) x b s = elim (decLt x 64) [
+  | yes h ↦
+      let q : x / 64 ≡ 0 = omega arith in
+      let r : x % 64 ≡ x = omega arith in
+      rw (q, r) (sym (field-low w (wordsIn l) x 1 (s 0) (omega arith)))
+  | no h ↦
+      let q : x / 64 ≡ suc ((x - 64) / 64) = omega arith in
+      let r : x % 64 ≡ (x - 64) % 64 = omega arith in
+      let e : x ≡ 64 + (x - 64) = omega arith in
+      rw (q, r) (word-field l (x - 64) (omega arith) (λ i. s (suc i)) ∙ sym (field-high w (wordsIn l) (x - 64) 1 (s 0))
+      ∙ ap (λ (y : ℕ). field (whole w (wordsIn l)) y 1) (sym e))
+]
 
-  pub has-b : 64 ≤ x → x < 128 → eqb (field b (x - 64) 1) 1 ≡ isIn (marksOf a b c d) x
-  unfolding isIn
-  has-b g h = ap (λ (n : ℕ). eqb n 1)
-      (sym (step x (x - 64) a (whole b (whole c d)) sa (omega arith) ∙ field-low b (whole c d) (x - 64) 1 sb (omega arith)))
+pub word-patched : (l : List ℕ) (x : ℕ) → x / 64 < length l → Fit l
+    → wordsIn (set l (x / 64) (patched (getD l (x / 64) 0) (x % 64) 1 1)) ≡ patched (wordsIn l) x 1 1
+unfolding wordsIn
+word-patched [] x b s = absurd (omega arith)
+word-patched (w ∷ l) x b s = elim (decLt x 64) [
+  | yes h ↦
+      let q : x / 64 ≡ 0 = omega arith in
+      let r : x % 64 ≡ x = omega arith in
+      rw (q, r) (sym (patched-low w (wordsIn l) x 1 (s 0) (omega arith) 1))
+  | no h ↦
+      let q : x / 64 ≡ suc ((x - 64) / 64) = omega arith in
+      let r : x % 64 ≡ (x - 64) % 64 = omega arith in
+      let e : x ≡ 64 + (x - 64) = omega arith in
+      rw (q, r) (ap (whole w) (word-patched l (x - 64) (omega arith) (λ i. s (suc i)))
+      ∙ sym (patched-high w (wordsIn l) (x - 64) 1 (s 0) 1) ∙ ap (λ (y : ℕ). patched (whole w (wordsIn l)) y 1 1) (sym e))
+]
 
-  pub has-c : 128 ≤ x → x < 192 → eqb (field c (x - 128) 1) 1 ≡ isIn (marksOf a b c d) x
-  unfolding isIn
-  has-c g h = ap (λ (n : ℕ). eqb n 1) (sym (step x (x - 64) a (whole b (whole c d)) sa (omega arith)
-      ∙ step (x - 64) (x - 128) b (whole c d) sb (omega arith) ∙ field-low c d (x - 128) 1 sc (omega arith)))
+pub word-has : (l : List ℕ) (x : ℕ) → x / 64 < length l → Fit l → eqb (field (getD l (x / 64) 0) (x % 64) 1) 1 ≡ isIn (wordsIn l) x
+unfolding isIn
+word-has l x b s = ap (λ (n : ℕ). eqb n 1) (word-field l x b s)
 
-  pub has-d : 192 ≤ x → eqb (field d (x - 192) 1) 1 ≡ isIn (marksOf a b c d) x
-  unfolding isIn
-  has-d g = ap (λ (n : ℕ). eqb n 1) (sym (step x (x - 64) a (whole b (whole c d)) sa (omega arith)
-      ∙ step (x - 64) (x - 128) b (whole c d) sb (omega arith) ∙ step (x - 128) (x - 192) c d sc (omega arith)))
+-- to set a bit is to replace it by 1
+pub or-patched : (n p : ℕ) → bitOr n (2 ^ p) ≡ patched n p 1 1
+unfolding patched
+or-patched n p =
+    let z : 2 ^ p ≡ 1 * 2 ^ p + 0 = omega arith in
+    let e : p + 1 ≡ 1 + p = omega arith in
+    ap₂ bitOr (sym (split n p)) z
+    ∙ or-block p (n / 2 ^ p) 1 (n % 2 ^ p) 0 (mod-lt n (pow-pos p)) (pow-pos p)
+    ∙ ap₂ (λ (x y : ℕ). x * 2 ^ p + y) (or-one (n / 2 ^ p)) (or-zero-r (n % 2 ^ p))
+    ∙ shifted (n / 2 ^ p / 2) (2 ^ p) (n % 2 ^ p)
+    ∙ ap₂ (λ (x y : ℕ). x * y + (1 * 2 ^ p + n % 2 ^ p)) (shr-shr n p 1 ∙ ap (λ (k : ℕ). n / 2 ^ k) e) (sym (pow-add 2 1 p))
+  where
+    or-one : (x : ℕ) → bitOr x 1 ≡ x / 2 * 2 + 1
+    or-one x =
+        let m : max (x % 2) 1 ≡ 1 = omega arith in
+        or-step x 1 ∙ ap₂ (λ (a b : ℕ). a * 2 + b) (or-zero-r (x / 2)) m
 
-  pub with-a : x < 64 → marksOf (patched a x 1 1) b c d ≡ patched (marksOf a b c d) x 1 1
-  with-a h = sym (patched-low a (whole b (whole c d)) x 1 sa (omega arith) 1)
-
-  pub with-b : 64 ≤ x → x < 128 → marksOf a (patched b (x - 64) 1 1) c d ≡ patched (marksOf a b c d) x 1 1
-  with-b g h =
-      sym (up x (x - 64) a (whole b (whole c d)) sa (omega arith)
-      ∙ ap (whole a) (patched-low b (whole c d) (x - 64) 1 sb (omega arith) 1))
-
-  pub with-c : 128 ≤ x → x < 192 → marksOf a b (patched c (x - 128) 1 1) d ≡ patched (marksOf a b c d) x 1 1
-  with-c g h = sym (up x (x - 64) a (whole b (whole c d)) sa (omega arith)
-      ∙ ap (whole a) (up (x - 64) (x - 128) b (whole c d) sb (omega arith) ∙ ap (whole b) (patched-low c d (x - 128) 1 sc (omega arith) 1)))
-
-  pub with-d : 192 ≤ x → marksOf a b c (patched d (x - 192) 1 1) ≡ patched (marksOf a b c d) x 1 1
-  with-d g = sym (up x (x - 64) a (whole b (whole c d)) sa (omega arith)
-      ∙ ap (whole a) (up (x - 64) (x - 128) b (whole c d) sb (omega arith) ∙ ap (whole b) (up (x - 128) (x - 192) c d sc (omega arith))))
+    shifted : (m k r : ℕ) → (m * 2 + 1) * k + r ≡ m * (2 * k) + (1 * k + r)
+    shifted m k r = omega (arith, add-mul (m * 2) 1 k, mul-assoc m 2 k)
 
 -- ---- the lowest that is not in the set
 
@@ -113,34 +145,47 @@ module _ (n w o : ℕ) (last : o ≤ 192) (has : (x : ℕ) → o ≤ x → x < o
       }
 
 -- word by word: each is looked at where those before it are full
-module _ (a b c d : ℕ) (sa : a < 2 ^ 64) (sb : b < 2 ^ 64) (sc : c < 2 ^ 64) (ra : ℕ) (za : LowestZero a 64 ra) where
-  abbrev m : ℕ
-  m = marksOf a b c d
+module _ (a b c d : ℕ) (sa : a < 2 ^ 64) (sb : b < 2 ^ 64) (sc : c < 2 ^ 64) (sd : d < 2 ^ 64) (ra : ℕ) (za : LowestZero a 64 ra) where
+  abbrev l : List ℕ
+  l = a ∷ b ∷ c ∷ d ∷ []
 
-  in-a : (x : ℕ) → 0 ≤ x → x < 0 + 64 → eqb (field a (x - 0) 1) 1 ≡ isIn m x
-  in-a x g h = let e : x - 0 ≡ x = omega arith in rw e (has-a a b c d x sa sb sc (omega arith))
+  fit : Fit l
+  fit zero = sa
+  fit (suc zero) = sb
+  fit (suc (suc zero)) = sc
+  fit (suc (suc (suc zero))) = sd
+  fit (suc (suc (suc (suc i)))) = lit< tt
+
+  abbrev m : ℕ
+  m = wordsIn l
+
+  in-word : (k : ℕ) → k < 4 → (x : ℕ) → 64 * k ≤ x → x < 64 * k + 64 → eqb (field (getD l k 0) (x - 64 * k) 1) 1 ≡ isIn m x
+  in-word k h x from to =
+      let q : k ≡ x / 64 = omega arith in
+      let r : x - 64 * k ≡ x % 64 = omega arith in
+      ap₂ (λ (i p : ℕ). eqb (field (getD l i 0) p 1) 1) q r ∙ word-has l x (omega arith) fit
 
   pub out-a : ra < 64 → FirstOut m ra
-  out-a h = rw (← zero-add ra) (out-here m a 0 (omega arith) in-a (λ t l. absurd (omega arith)) ra za (λ l. h))
+  out-a h = rw (← zero-add ra) (out-here m a 0 (omega arith) (in-word 0 (omega arith)) (λ t l. absurd (omega arith)) ra za (λ l. h))
 
   module _ (fa : 64 ≤ ra) (rb : ℕ) (zb : LowestZero b 64 rb) where
     full-a : (t : ℕ) → t < 64 → isIn m t ≡ true
-    full-a t l = in-to m a 0 (omega arith) in-a (λ t l. absurd (omega arith)) ra za t (omega arith)
+    full-a t l = in-to m a 0 (omega arith) (in-word 0 (omega arith)) (λ t l. absurd (omega arith)) ra za t (omega arith)
 
     pub out-b : rb < 64 → FirstOut m (64 + rb)
-    out-b h = out-here m b 64 (omega arith) (λ x. has-b a b c d x sa sb sc) full-a rb zb (λ l. h)
+    out-b h = out-here m b 64 (omega arith) (in-word 1 (omega arith)) full-a rb zb (λ l. h)
 
     module _ (fb : 64 ≤ rb) (rc : ℕ) (zc : LowestZero c 64 rc) where
       full-b : (t : ℕ) → t < 128 → isIn m t ≡ true
-      full-b t l = in-to m b 64 (omega arith) (λ x. has-b a b c d x sa sb sc) full-a rb zb t (omega arith)
+      full-b t l = in-to m b 64 (omega arith) (in-word 1 (omega arith)) full-a rb zb t (omega arith)
 
       pub out-c : rc < 64 → FirstOut m (128 + rc)
-      out-c h = out-here m c 128 (omega arith) (λ x. has-c a b c d x sa sb sc) full-b rc zc (λ l. h)
+      out-c h = out-here m c 128 (omega arith) (in-word 2 (omega arith)) full-b rc zc (λ l. h)
 
       pub out-d : 64 ≤ rc → (rd : ℕ) → LowestZero d 64 rd → FirstOut m (192 + rd)
       out-d fc rd zd =
-          out-here m d 192 (omega arith) (λ x g l. has-d a b c d x sa sb sc g)
-          (λ t l. in-to m c 128 (omega arith) (λ x. has-c a b c d x sa sb sc) full-b rc zc t (omega arith)) rd zd
+          out-here m d 192 (omega arith) (in-word 3 (omega arith))
+          (λ t l. in-to m c 128 (omega arith) (in-word 2 (omega arith)) full-b rc zc t (omega arith)) rd zd
           (λ l. omega arith)
 
 -- the search among n

@@ -1,12 +1,12 @@
 -- A leaf judged, and one turn of the walk, as the code computes them.
-use mathlib.Core.Path.{_≡_, refl, sym, ap, _∙_}
+use mathlib.Core.Path.{_≡_, refl, sym, ap, subst, _∙_}
 use mathlib.Core.Bool.{Bool, true, false, cond, not}
 use mathlib.Core.List.{List, [], _∷_}
 use Prim.Native.Nat.{ℕ, zero, suc, _+_, _-_, _*_, _≤_, _<_}
 use native.Mathlib.Decide.{ℕ-discrete}
 use native.Mathlib.Nat.{add-zero}
 use native.Mathlib.Omega.{arith}
-use borrow.Author.Tests.{eq-eqb, ne-eqb, eqb-true, leb-false}
+use borrow.Author.Tests.{eq-eqb, ne-eqb, eqb-true, eqb-false, leb-false}
 use lib.Dec.{leb, eqb}
 use lib.ListN.{length, getD, set, drop, length-set, length-drop}
 use lib.Seq.{getD-set-same, getD-set-other, getD-drop, drop-drop}
@@ -20,7 +20,7 @@ use Rattle.leaf.specs.Search.{smallestOf, count}
 use Rattle.leaf.specs.TallyLaws.{least-reaches, smallest-is}
 use Rattle.leaf.specs.Tally.{Tells, wrongAt, atMost, mostTo, twins}
 use Rattle.leaf.specs.declared.tally.Tally.{Tally}
-use Rattle.survey.specs.Walk.{State, stopped, moved, firstFault, againBy, bareBy, lowBy, faultBy, reachedBy, smallestBy, faultOf, judged, start, walk, surveyed, visited, NotedTo}
+use Rattle.survey.specs.Walk.{State, stopped, moved, firstFault, againBy, bareBy, lowBy, faultBy, reachedBy, smallestBy, faultOf, judged, start, walk, surveyed, visited, NotedTo, Noted}
 
 -- ---- the fault
 
@@ -116,7 +116,7 @@ pub record Bounded (N i : ℕ) (st : State) : Type 0 where
   pub leaves : st .leaves ≤ i
   pub entries : st .entries ≤ 14 * i
 
-pub start-bounded : (N : ℕ) → 0 < N → Bounded N 0 start
+start-bounded : (N : ℕ) → 0 < N → Bounded N 0 start
 start-bounded N h = record { at = h; prev = h; target = h; before = h; leaves = omega arith; entries = omega arith }
 
 pick-below : (b : Bool) (x y N : ℕ) → x < N → y < N → cond b x y < N
@@ -161,7 +161,7 @@ judged-bounded w b N key i st B =
     near : faultOf L N st ≡ 0 → L .next < N
     near e = fault-far L N st e
 
-pub turn-bounded : (w : ℕ → ℕ) (N key i : ℕ) (st r : State) → Bounded N i st → r ≡ judged (view w (st .at)) N key st
+turn-bounded : (w : ℕ → ℕ) (N key i : ℕ) (st r : State) → Bounded N i st → r ≡ judged (view w (st .at)) N key st
     → Bounded N (i + 1) r
 turn-bounded w N key i st r B e = rw e (judged-bounded w (st .at) N key i st B)
 
@@ -195,11 +195,11 @@ surveyed-bounded w N key h =
 -- ---- the turns
 
 module _ (I : ℕ → Leaf) (N key : ℕ) where
-  pub walk-whole : (st : State) → st ≡ start → walk I N key (N - 0) st ≡ surveyed I N key
+  walk-whole : (st : State) → st ≡ start → walk I N key (N - 0) st ≡ surveyed I N key
   unfolding surveyed
   walk-whole st e = let n : N - 0 ≡ N = omega arith in rw (n, e)
 
-  pub walk-turn : (i : ℕ) (st r whole : State) → i < N → st .stage ≡ 0 → r ≡ judged (I (st .at)) N key st
+  walk-turn : (i : ℕ) (st r whole : State) → i < N → st .stage ≡ 0 → r ≡ judged (I (st .at)) N key st
       → walk I N key (N - i) st ≡ whole → walk I N key (N - (i + 1)) r ≡ whole
   unfolding walk
   walk-turn i st r whole h e j is = sym (let n : N - i ≡ suc (N - (i + 1)) = omega arith in rw (n, eq-eqb (st .stage) 0 e, j))
@@ -210,7 +210,7 @@ module _ (I : ℕ → Leaf) (N key : ℕ) where
   walk-stop zero st ne = refl
   walk-stop (suc n) st ne = rw (ne-eqb (st .stage) 0 ne)
 
-  pub walk-end : (i : ℕ) (st : State) → N ≤ i → walk I N key (N - i) st ≡ st
+  walk-end : (i : ℕ) (st : State) → N ≤ i → walk I N key (N - i) st ≡ st
   unfolding walk
   walk-end i st h = let n : N - i ≡ 0 = omega arith in rw n
 
@@ -221,14 +221,14 @@ module _ (I : ℕ → Leaf) (N key : ℕ) where
   visited-stop zero st ne = refl
   visited-stop (suc n) st ne = rw (ne-eqb (st .stage) 0 ne)
 
-  abbrev pub way : List ℕ
+  abbrev way : List ℕ
   way = visited I N key N start
 
   -- those to come after i turns
-  abbrev pub Coming : ℕ → State → Type 0
+  abbrev Coming : ℕ → State → Type 0
   Coming i st = drop i way ≡ visited I N key (N - i) st
 
-  pub coming-all : (st : State) → st ≡ start → Coming 0 st
+  coming-all : (st : State) → st ≡ start → Coming 0 st
   coming-all st e = let n : N - 0 ≡ N = omega arith in rw (n, e)
 
   module _ (i : ℕ) (st : State) (c : Coming i st) where
@@ -236,10 +236,10 @@ module _ (I : ℕ → Leaf) (N key : ℕ) where
     unfolding visited
     coming-one h e = c ∙ (let n : N - i ≡ suc (N - (i + 1)) = omega arith in rw (n, eq-eqb (st .stage) 0 e))
 
-    pub coming-here : i < N → st .stage ≡ 0 → getD way i 0 ≡ st .at
+    coming-here : i < N → st .stage ≡ 0 → getD way i 0 ≡ st .at
     coming-here h e = sym (getD-drop i way 0 0 ∙ rw (add-zero i)) ∙ ap (λ (l : List ℕ). getD l 0 0) (coming-one h e)
 
-    pub coming-next : (r : State) → i < N → st .stage ≡ 0 → r ≡ judged (I (st .at)) N key st → Coming (i + 1) r
+    coming-next : (r : State) → i < N → st .stage ≡ 0 → r ≡ judged (I (st .at)) N key st → Coming (i + 1) r
     coming-next r h e j =
         rw (j, ← drop-drop 1 i way) (ap (drop 1) (coming-one h e))
 
@@ -247,21 +247,21 @@ module _ (I : ℕ → Leaf) (N key : ℕ) where
     coming-none e = omega (arith, length-drop i way, ap (λ (l : List ℕ). length l) (c ∙ e))
 
     -- the walk has stopped, or made all its turns
-    pub coming-stop : (st .stage ≡ 0 → ⊥) → length way ≤ i
+    coming-stop : (st .stage ≡ 0 → ⊥) → length way ≤ i
     coming-stop ne = coming-none (visited-stop (N - i) st ne)
 
-    pub coming-end : N ≤ i → length way ≤ i
+    coming-end : N ≤ i → length way ≤ i
     unfolding visited
     coming-end h = coming-none (let n : N - i ≡ 0 = omega arith in rw n)
 
 -- ---- what is noted of them
 
 module _ (I : ℕ → Leaf) (bs : List ℕ) where
-  pub noted-none : (leasts numbers : List ℕ) → NotedTo I bs 0 leasts numbers
+  noted-none : (leasts numbers : List ℕ) → NotedTo I bs 0 leasts numbers
   noted-none leasts numbers = record { least = λ j b c. absurd (omega arith); number = λ j b c. absurd (omega arith) }
 
   -- one more
-  pub noted-next : (i b : ℕ) (leasts numbers ls ns : List ℕ) → getD bs i 0 ≡ b → NotedTo I bs i leasts numbers
+  noted-next : (i b : ℕ) (leasts numbers ls ns : List ℕ) → getD bs i 0 ≡ b → NotedTo I bs i leasts numbers
       → ls ≡ set leasts i (smallestOf (I b)) → ns ≡ set numbers i b → NotedTo I bs (i + 1) ls ns
   noted-next i b leasts numbers ls ns e k el en = rw (el, en) (record {
     least = λ j c d. elim (ℕ-discrete j i) [
@@ -275,12 +275,76 @@ module _ (I : ℕ → Leaf) (bs : List ℕ) where
     ];
   })
 
-  pub noted-all : (i : ℕ) (leasts numbers : List ℕ) → length bs ≤ i → NotedTo I bs i leasts numbers
+  noted-all : (i : ℕ) (leasts numbers : List ℕ) → length bs ≤ i → NotedTo I bs i leasts numbers
       → NotedTo I bs (length bs) leasts numbers
   noted-all i leasts numbers h k = record {
     least = λ j b c. k .least j (omega arith) c;
     number = λ j b c. k .number j (omega arith) c;
   }
+
+-- ---- all that a walk keeps
+
+-- a turn that does not stop the walk passes a leaf
+pub judged-goes : (L : Leaf) (N key : ℕ) (st r : State) → r ≡ judged L N key st → r .stage ≡ 0 → r .leaves ≡ st .leaves + 1
+unfolding judged
+judged-goes L N key st r j e = ap (λ (s : State). s .leaves) j ∙ by-test
+    (λ b. (cond b on off) .stage ≡ 0 → (cond b on off) .leaves ≡ st .leaves + 1)
+    (eqb (faultOf L N st) 0)
+    (λ q z. refl)
+    (λ q z. absurd (eqb-false (faultOf L N st) 0 q z))
+    (ap (λ (s : State). s .stage) (sym j) ∙ e)
+  where
+    on : State
+    on = moved (L .next) (count L) (countBelow (atMost L key) (L .size)) (mostTo L (L .size)) st
+
+    off : State
+    off = stopped (faultOf L N st) st
+
+module _ (w : ℕ → ℕ) (N key : ℕ) where
+  -- after i turns: it is in bounds, what is left of it gives what the whole walk gives, and what is behind is noted
+  pub record Kept (i : ℕ) (st : State) (leasts numbers : List ℕ) : Type 0 where
+    pub bounded : Bounded N i st
+    pub rest : walk (view w) N key (N - i) st ≡ surveyed (view w) N key
+    pub coming : Coming (view w) N key i st
+    pub noted : NotedTo (view w) (way (view w) N key) i leasts numbers
+
+  pub kept-start : (st : State) (leasts numbers : List ℕ) → 0 < N → st ≡ start → Kept (st .leaves) st leasts numbers
+  kept-start st leasts numbers h e = subst (λ (s : State). Kept (s .leaves) s leasts numbers) (sym e) (record {
+    bounded = start-bounded N h;
+    rest = walk-whole (view w) N key start refl;
+    coming = coming-all (view w) N key start refl;
+    noted = noted-none (view w) (way (view w) N key) leasts numbers;
+  })
+
+  pub kept-turn : (i : ℕ) (st r : State) (leasts numbers ls ns : List ℕ) → Kept i st leasts numbers → i < N → st .stage ≡ 0
+      → r ≡ judged (view w (st .at)) N key st → ls ≡ set leasts i (smallestOf (view w (st .at))) → ns ≡ set numbers i (st .at)
+      → Kept (i + 1) r ls ns
+  kept-turn i st r leasts numbers ls ns k h e j el en = record {
+    bounded = turn-bounded w N key i st r (k .bounded) j;
+    rest = walk-turn (view w) N key i st r (surveyed (view w) N key) h e j (k .rest);
+    coming = coming-next (view w) N key i st (k .coming) r h e j;
+    noted = noted-next (view w) (way (view w) N key) i (st .at) leasts numbers ls ns
+        (coming-here (view w) N key i st (k .coming) h e) (k .noted) el en;
+  }
+
+  -- the walk goes on
+  pub kept-on : (st r : State) (ls ns : List ℕ) → r ≡ judged (view w (st .at)) N key st → r .stage ≡ 0
+      → Kept (st .leaves + 1) r ls ns → Kept (r .leaves) r ls ns
+  kept-on st r ls ns j e k = subst (λ (i : ℕ). Kept i r ls ns) (sym (judged-goes (view w (st .at)) N key st r j e)) k
+
+  module _ (i : ℕ) (st : State) (leasts numbers : List ℕ) (k : Kept i st leasts numbers) where
+    -- the walk has stopped, or made all its turns
+    pub kept-stop : (st .stage ≡ 0 → ⊥) → (st ≡ surveyed (view w) N key) × Noted (view w) N key leasts numbers
+    kept-stop ne = (
+      sym (walk-stop (view w) N key (N - i) st ne) ∙ k .rest,
+      noted-all (view w) (way (view w) N key) i leasts numbers (coming-stop (view w) N key i st (k .coming) ne) (k .noted),
+    )
+
+    pub kept-end : N ≤ i → (st ≡ surveyed (view w) N key) × Noted (view w) N key leasts numbers
+    kept-end h = (
+      sym (walk-end (view w) N key i st h) ∙ k .rest,
+      noted-all (view w) (way (view w) N key) i leasts numbers (coming-end (view w) N key i st (k .coming) h) (k .noted),
+    )
 
 -- a buffer that ends before i stays as it is
 pub set-past : (l : List ℕ) (i v : ℕ) → length l ≤ i → set l i v ≡ l

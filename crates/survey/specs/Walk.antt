@@ -13,7 +13,8 @@ use Rattle.leaf.specs.Leaf.{Leaf}
 use Rattle.leaf.specs.Search.{smallestOf, count}
 use Rattle.leaf.specs.Tally.{wrongAt, atMost, mostTo, twins}
 use Rattle.leaf.specs.declared.tally.Tally.{Tally}
-use Rattle.survey.specs.Marks.{blocksIn, isIn}
+use Rattle.survey.specs.Marks.{wordsIn, blocksIn, isIn}
+use Rattle.survey.specs.declared.walk.Progress.{Progress}
 use Rattle.survey.specs.declared.walk.Walk.{Walk}
 
 -- The stage: 0 while the walk goes on, 1 where the chain has ended, else the fault. The leaf at hand and the one before it; the last
@@ -29,6 +30,20 @@ pub record State : Type 0 where
   pub entries : ℕ
   pub last : ℕ
   pub met : ℕ → Bool
+
+-- on the way, with the words of the blocks met
+abbrev pub stateIn : Progress → List ℕ → State
+stateIn w met = record {
+  stage = w .stage;
+  at = w .at;
+  prev = w .prev;
+  target = w .target;
+  before = w .before;
+  leaves = w .leaves;
+  entries = w .entries;
+  last = w .last;
+  met = isIn (wordsIn met);
+}
 
 abbrev pub stateOf : Walk → State
 stateOf w = record {

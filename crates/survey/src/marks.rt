@@ -1,15 +1,33 @@
-// A set of block numbers, one bit for each.
+// A set of block numbers, one bit for each, in four words.
 use header::bits::get;
 use header::bits::lowest_zero;
-use header::bits::replace;
 use leaf::search::Slot;
 ghost use mathlib.Core.Path.{_≡_};
 ghost use mathlib.Core.Bool.{not};
 ghost use Prim.Native.Nat.{_≤_, _<_};
+ghost use lib.ListN.{length};
 ghost use Rattle.header.specs.Fields.{patched};
 ghost use Rattle.leaf.specs.Search.{lowest};
-ghost use Rattle.survey.specs.Marks.{blocksIn, isIn, FirstOut};
+ghost use Rattle.survey.specs.Marks.{wordsIn, blocksIn, isIn, FirstOut};
 
+// Whether a block is in the set. The words are lent, and not fields: which of them has the block is then no branch.
+pub fn has(words: &[u64], block: usize) -> bool
+    requires { ⌜ (length (now words) ≡ 4) × (block < 256) ⌝ }
+    ensures { λ r. ⌜ r ≡ isIn (wordsIn (now (words .entry))) block ⌝ }
+{
+    get(words[block / 64], block % 64, 1) == 1
+}
+
+// Puts a block into the set.
+pub fn mark(words: &mut [u64], block: usize)
+    requires { ⌜ (length (now words) ≡ 4) × (block < 256) ⌝ }
+    ensures { λ _. ⌜ wordsIn (now (words .exit)) ≡ patched (wordsIn (now (words .entry))) block 1 1 ⌝ }
+{
+    let i = block / 64;
+    words[i] = words[i] | (1 << (block % 64));
+}
+
+// A set as a value.
 pub struct Marks {
     pub a: u64,
     pub b: u64,
@@ -18,52 +36,16 @@ pub struct Marks {
 }
 
 impl Marks {
-    pub fn none() -> Marks
-        ensures { λ r. ⌜ blocksIn r ≡ 0 ⌝ }
+    pub fn of(words: &[u64]) -> Marks
+        requires { ⌜ length (now words) ≡ 4 ⌝ }
+        ensures { λ r. ⌜ blocksIn r ≡ wordsIn (now (words .entry)) ⌝ }
     {
         Marks {
-            a: 0,
-            b: 0,
-            c: 0,
-            d: 0,
+            a: words[0],
+            b: words[1],
+            c: words[2],
+            d: words[3],
         }
-    }
-
-    pub fn has(self, block: usize) -> bool
-        requires { ⌜ block < 256 ⌝ }
-        ensures { λ r. ⌜ r ≡ isIn (blocksIn self) block ⌝ }
-    {
-        if block < 64 {
-            return get(self.a, block, 1) == 1;
-        }
-        if block < 128 {
-            return get(self.b, block - 64, 1) == 1;
-        }
-        if block < 192 {
-            return get(self.c, block - 128, 1) == 1;
-        }
-        get(self.d, block - 192, 1) == 1
-    }
-
-    pub fn with(self, block: usize) -> Marks
-        requires { ⌜ block < 256 ⌝ }
-        ensures { λ r. ⌜ blocksIn r ≡ patched (blocksIn self) block 1 1 ⌝ }
-    {
-        let mut r = self;
-        if block < 64 {
-            r.a = replace(self.a, block, 1, 1);
-            return r;
-        }
-        if block < 128 {
-            r.b = replace(self.b, block - 64, 1, 1);
-            return r;
-        }
-        if block < 192 {
-            r.c = replace(self.c, block - 128, 1, 1);
-            return r;
-        }
-        r.d = replace(self.d, block - 192, 1, 1);
-        r
     }
 
     // The lowest block that is not in the set; 256 where each is.

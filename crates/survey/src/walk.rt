@@ -1,5 +1,7 @@
 // The walk.
 use crate::marks::Marks;
+use crate::marks::has;
+use crate::marks::mark;
 use header::Header;
 use leaf::place::Leaf;
 use leaf::search::next_of;
@@ -8,7 +10,8 @@ use leaf::tally::has_twins;
 use leaf::tally::tally_of;
 ghost use mathlib.Core.Path.{_≡_};
 ghost use mathlib.Core.Bool.{false, not, cond};
-ghost use Prim.Native.Nat.{_+_, _*_, _/_, _≤_, _<_};
+ghost use mathlib.Core.List.{List};
+ghost use Prim.Native.Nat.{ℕ, _+_, _*_, _/_, _≤_, _<_};
 ghost use lib.Dec.{eqb};
 ghost use lib.ListN.{length, set};
 ghost use Rattle.words.specs.Words.{reads};
@@ -18,11 +21,24 @@ ghost use Rattle.leaf.specs.Leaf.{leafIn, view};
 ghost use Rattle.leaf.specs.Search.{smallestOf};
 ghost use Rattle.leaf.specs.Tally.{twins};
 ghost use Rattle.leaf.specs.TallySteps.{Hits};
-ghost use Rattle.survey.specs.Marks.{blocksIn, isIn};
-ghost use Rattle.survey.specs.Walk.{stateOf, stopped, moved, faultBy, reachedBy, smallestBy, judged, start, surveyed, Noted};
+ghost use Rattle.survey.specs.Marks.{wordsIn, isIn};
+ghost use Rattle.survey.specs.Walk.{stateOf, stateIn, stopped, moved, faultBy, reachedBy, smallestBy, judged, start, surveyed, Noted};
 
-// Where the walk is and what it has noted. The stage is 0 while it goes on, 1 where the chain has ended, and else the fault:
-// request [1]'s numbers, 31 to 37. All are numbers, so that none is copied with padding.
+// Where the walk is and what it has noted, but for the blocks met, which stand in four lent words. The stage is 0 while it goes on,
+// 1 where the chain has ended, and else the fault: request [1]'s numbers, 31 to 37. All are numbers, so that none is copied with
+// padding.
+struct Progress {
+    stage: u64,
+    at: u64,
+    prev: u64,
+    target: u64,
+    before: u64,
+    leaves: u64,
+    entries: u64,
+    last: u64,
+}
+
+// What the walk tells: where it ended, and all that it has noted.
 pub struct Walk {
     pub stage: u64,
     pub at: u64,
@@ -58,8 +74,8 @@ fn reaches(t: Tally, x: u64) -> u64
     }
 }
 
-fn stop(w: Walk, fault: u64) -> Walk
-    ensures { λ r. ⌜ stateOf r ≡ stopped fault (stateOf w) ⌝ }
+fn stop(w: Progress, fault: u64) -> Progress
+    ensures { λ r. ⌜ ((met : List ℕ) → stateIn r met ≡ stopped fault (stateIn w met)) ⌝ }
 {
     let mut r = w;
     r.stage = fault;
@@ -67,13 +83,12 @@ fn stop(w: Walk, fault: u64) -> Walk
 }
 
 // The leaf at hand is good: note it, and go on to the next.
-fn onward(w: Walk, next: u64, reached: u64, t: Tally) -> Walk
-    requires { ⌜ (next < 256) × (w .leaves ≤ 256) × (w .entries ≤ 3584) × (t .entries ≤ 14) ⌝ }
-    ensures { λ r. ⌜ stateOf r ≡ moved next (t .entries) reached (t .most) (stateOf w) ⌝ }
+fn onward(met: &mut [u64], w: Progress, next: u64, reached: u64, t: Tally) -> Progress
+    requires { ⌜ (length (now met) ≡ 4) × (next < 256) × (w .leaves ≤ 256) × (w .entries ≤ 3584) × (t .entries ≤ 14) ⌝ }
+    ensures { λ r. ⌜ stateIn r (now (met .exit)) ≡ moved next (t .entries) reached (t .most) (stateIn w (now (met .entry))) ⌝ }
 {
-    let met = w.met;
-    let met = met.with(next as usize);
-    Walk {
+    mark(met, next as usize);
+    Progress {
         stage: pick(next == 0, 1, 0),
         at: next,
         prev: w.at,
@@ -82,16 +97,15 @@ fn onward(w: Walk, next: u64, reached: u64, t: Tally) -> Walk
         leaves: w.leaves + 1,
         entries: w.entries + t.entries,
         last: pick(t.entries == 0, w.last, t.most),
-        met: met,
     }
 }
 
 // Whether the next block was met before.
-fn is_again(met: Marks, next: u64) -> bool
-    requires { ⌜ next < 256 ⌝ }
-    ensures { λ r. ⌜ r ≡ both (not (eqb next 0)) (isIn (blocksIn met) next) ⌝ }
+fn is_again(met: &[u64], next: u64) -> bool
+    requires { ⌜ (length (now met) ≡ 4) × (next < 256) ⌝ }
+    ensures { λ r. ⌜ r ≡ both (not (eqb next 0)) (isIn (wordsIn (now (met .entry))) next) ⌝ }
 {
-    and(next != 0, met.has(next as usize))
+    and(next != 0, has(met, next as usize))
 }
 
 // Whether a leaf is empty and not block 0.
@@ -121,15 +135,16 @@ fn is_twinned(leaf: &[u8], head: Header, hits: u64) -> bool
 }
 
 // The first of the faults of a leaf whose active sibling and tally are told, in the order in which they are told, or 0.
-fn fault_of(leaf: &[u8], head: Header, n: u64, w: Walk, next: u64, t: Tally) -> u64
-    requires { ⌜ (256 ≤ length (now leaf)) × (n ≤ 256) × (bitsOf head ≡ headAt (now leaf) 0)
+fn fault_of(leaf: &[u8], head: Header, n: u64, met: &[u64], w: Progress, next: u64, t: Tally) -> u64
+    requires { ⌜ (256 ≤ length (now leaf)) × (n ≤ 256) × (length (now met) ≡ 4) × (bitsOf head ≡ headAt (now leaf) 0)
         × (t .hits ≡ 0 → twins (leafIn (now leaf)) ≡ false) × Hits (leafIn (now leaf)) 14 (t .hits) ⌝ }
-    ensures { λ r. ⌜ r ≡ faultBy n next (bitsOf head) (twins (leafIn (now (leaf .entry)))) t (reachedBy t (w .last)) (stateOf w) ⌝ }
+    ensures { λ r. ⌜ r
+        ≡ faultBy n next (bitsOf head) (twins (leafIn (now (leaf .entry)))) t (reachedBy t (w .last)) (stateIn w (now (met .entry))) ⌝ }
 {
     if n <= next {
         return 31;
     }
-    if is_again(w.met, next) {
+    if is_again(met, next) {
         return 32;
     }
     if head.locked() {
@@ -172,34 +187,35 @@ fn judge(
     n: u64,
     key: u64,
     stamps: &mut [u8],
+    met: &mut [u64],
     leasts: &mut [u64],
     numbers: &mut [u8],
-    i: usize,
-    w: Walk,
-) -> Walk
-    requires { ⌜ (256 ≤ length (now leaf)) × (n ≤ 256) × (256 ≤ length (now stamps)) × (w .leaves ≤ 256) × (w .entries ≤ 3584)
-        × (w .at < 256) × (length (now numbers) ≡ length (now leasts)) ⌝ }
-    ensures { λ r. ⌜ (stateOf r ≡ judged (leafIn (now (leaf .entry))) n key (stateOf w))
+    w: Progress,
+) -> Progress
+    requires { ⌜ (256 ≤ length (now leaf)) × (n ≤ 256) × (256 ≤ length (now stamps)) × (length (now met) ≡ 4) × (w .leaves ≤ 256)
+        × (w .entries ≤ 3584) × (w .at < 256) × (length (now numbers) ≡ length (now leasts)) ⌝ }
+    ensures { λ r. ⌜ (stateIn r (now (met .exit)) ≡ judged (leafIn (now (leaf .entry))) n key (stateIn w (now (met .entry))))
         × (length (now (stamps .exit)) ≡ length (now (stamps .entry)))
-        × (now (leasts .exit) ≡ set (now (leasts .entry)) i (smallestOf (leafIn (now (leaf .entry)))))
-        × (now (numbers .exit) ≡ set (now (numbers .entry)) i (w .at)) ⌝ }
+        × (now (leasts .exit) ≡ set (now (leasts .entry)) (w .leaves) (smallestOf (leafIn (now (leaf .entry)))))
+        × (now (numbers .exit) ≡ set (now (numbers .entry)) (w .leaves) (w .at)) ⌝ }
 {
     let head = Header::read(leaf, 0);
     let next = next_of(leaf, head);
     let t = tally_of(leaf, head, stamps, stamp_of(w.leaves));
-    note_leaf(leasts, numbers, i, w.at, t);
-    let fault = fault_of(leaf, head, n, w, next, t);
+    note_leaf(leasts, numbers, w.leaves as usize, w.at, t);
+    let fault = fault_of(leaf, head, n, met, w, next, t);
     if fault == 0 {
-        return onward(w, next, reaches(t, key), t);
+        return onward(met, w, next, reaches(t, key), t);
     }
     stop(w, fault)
 }
 
-fn begun() -> Walk
-    ensures { λ r. ⌜ stateOf r ≡ start ⌝ }
+fn begun(met: &mut [u64]) -> Progress
+    requires { ⌜ (length (now met) ≡ 4) × (wordsIn (now met) ≡ 0) ⌝ }
+    ensures { λ r. ⌜ stateIn r (now (met .exit)) ≡ start ⌝ }
 {
-    let met = Marks::none().with(0);
-    Walk {
+    mark(met, 0);
+    Progress {
         stage: 0,
         at: 0,
         prev: 0,
@@ -208,58 +224,73 @@ fn begun() -> Walk
         leaves: 0,
         entries: 0,
         last: 0,
-        met: met,
     }
 }
 
-// One turn, the i-th: the leaf at hand, in its part of the image, judged and noted.
+// One turn: the leaf at hand, in its part of the image, judged and noted.
 fn turn(
     image: &[u8],
     n: u64,
     key: u64,
     stamps: &mut [u8],
+    met: &mut [u64],
     leasts: &mut [u64],
     numbers: &mut [u8],
-    i: usize,
-    w: Walk,
-) -> Walk
-    requires { ⌜ (n ≤ 256) × (256 * n ≤ length (now image)) × (w .at < n) × (256 ≤ length (now stamps)) × (w .leaves ≤ 256)
-        × (w .entries ≤ 3584) × (length (now numbers) ≡ length (now leasts)) ⌝ }
-    ensures { λ r. ⌜ (stateOf r ≡ judged (view (reads (now (image .entry))) (w .at)) n key (stateOf w))
+    w: Progress,
+) -> Progress
+    requires { ⌜ (n ≤ 256) × (256 * n ≤ length (now image)) × (w .at < n) × (256 ≤ length (now stamps)) × (length (now met) ≡ 4)
+        × (w .leaves ≤ 256) × (w .entries ≤ 3584) × (length (now numbers) ≡ length (now leasts)) ⌝ }
+    ensures { λ r. ⌜ (stateIn r (now (met .exit)) ≡ judged (view (reads (now (image .entry))) (w .at)) n key (stateIn w (now (met .entry))))
         × (length (now (stamps .exit)) ≡ length (now (stamps .entry)))
-        × (now (leasts .exit) ≡ set (now (leasts .entry)) i (smallestOf (view (reads (now (image .entry))) (w .at))))
-        × (now (numbers .exit) ≡ set (now (numbers .entry)) i (w .at)) ⌝ }
+        × (now (leasts .exit) ≡ set (now (leasts .entry)) (w .leaves) (smallestOf (view (reads (now (image .entry))) (w .at))))
+        × (now (numbers .exit) ≡ set (now (numbers .entry)) (w .leaves) (w .at)) ⌝ }
 {
     let a = Leaf::BYTES * (w.at as usize);
     let e = a + Leaf::BYTES;
-    judge(&image[a..e], n, key, stamps, leasts, numbers, i, w)
+    judge(&image[a..e], n, key, stamps, met, leasts, numbers, w)
 }
 
-// At most as many turns as there are blocks: no chain is longer.
+// Until the walk stops, at most as many turns as there are blocks: no chain is longer. The leaves passed are the turns made.
 fn walk_along(
     image: &[u8],
     key: u64,
     stamps: &mut [u8],
+    met: &mut [u64],
     leasts: &mut [u64],
     numbers: &mut [u8],
-) -> Walk
-    requires { ⌜ (256 ≤ length (now image)) × (length (now image) ≤ 65536) × (256 ≤ length (now stamps))
-        × (length (now numbers) ≡ length (now leasts)) ⌝ }
-    ensures { λ r. ⌜ (stateOf r ≡ surveyed (view (reads (now (image .entry)))) (length (now (image .entry)) / 256) key)
+) -> Progress
+    requires { ⌜ (256 ≤ length (now image)) × (length (now image) ≤ 65536) × (256 ≤ length (now stamps)) × (length (now met) ≡ 4)
+        × (wordsIn (now met) ≡ 0) × (length (now numbers) ≡ length (now leasts)) ⌝ }
+    ensures { λ r. ⌜ (stateIn r (now (met .exit)) ≡ surveyed (view (reads (now (image .entry)))) (length (now (image .entry)) / 256) key)
         × Noted (view (reads (now (image .entry)))) (length (now (image .entry)) / 256) key (now (leasts .exit))
         (now (numbers .exit)) ⌝ }
 {
-    let n = image.len() / Leaf::BYTES;
-    let mut w = begun();
-    let mut i = 0;
-    while i < n {
+    let n = (image.len() / Leaf::BYTES) as u64;
+    let mut w = begun(met);
+    while w.leaves < n {
+        w = turn(image, n, key, stamps, met, leasts, numbers, w);
         if w.stage != 0 {
             return w;
         }
-        w = turn(image, n as u64, key, stamps, leasts, numbers, i, w);
-        i += 1;
     }
     w
+}
+
+fn told(w: Progress, met: &[u64]) -> Walk
+    requires { ⌜ length (now met) ≡ 4 ⌝ }
+    ensures { λ r. ⌜ stateOf r ≡ stateIn w (now (met .entry)) ⌝ }
+{
+    Walk {
+        stage: w.stage,
+        at: w.at,
+        prev: w.prev,
+        target: w.target,
+        before: w.before,
+        leaves: w.leaves,
+        entries: w.entries,
+        last: w.last,
+        met: Marks::of(met),
+    }
 }
 
 // The walk, with the smallest key and the number of each leaf noted in chain order.
@@ -270,7 +301,9 @@ pub fn survey_noting(image: &[u8], key: u64, leasts: &mut [u64], numbers: &mut [
         (now (numbers .exit)) ⌝ }
 {
     let mut stamps = [0u8; 256];
-    walk_along(image, key, &mut stamps, leasts, numbers)
+    let mut met = [0u64; 4];
+    let w = walk_along(image, key, &mut stamps, &mut met, leasts, numbers);
+    told(w, &met)
 }
 
 pub fn survey(image: &[u8], key: u64) -> Walk

@@ -11,8 +11,9 @@ use Rattle.survey.proofs.walk.begun.Tie as tie
 pub begun-spec : {M : Type 1} → statement M
 begun-spec =
     tie.close
-    (tie.spec (λ c κs. search needs) (λ c κs. search needs)
-    (λ c. λ i. record {
+    (tie.spec (λ c κs. search needs) (λ c. search needs)
+    (λ c. let m = c .before .before in
+    λ i. record {
       stage = 0;
       at = 0;
       prev = 0;
@@ -21,6 +22,6 @@ begun-spec =
       leaves = 0;
       entries = 0;
       last = 0;
-      met = (ap isIn (c .with .ensures ∙ ap (λ (n : ℕ). patched n 0 1 1) (c .before .none .ensures)) ∙ in-with 0 0
+      met = (ap isIn (m .mark .ensures ∙ ap (λ (n : ℕ). patched n 0 1 1) (m .before .before .before .pre .1)) ∙ in-with 0 0
           ∙ ap (λ (f : ℕ → Bool). upd f 0 true) in-none) i;
     }))

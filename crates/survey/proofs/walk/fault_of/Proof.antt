@@ -11,18 +11,18 @@ use Rattle.survey.proofs.walk.fault_of.Statement.{statement}
 use Rattle.survey.proofs.walk.fault_of.Tie as tie
 
 returns : tie.Need-returns
-returns c = let a = c .before .before .args in rw (le-leb (a .n) (a .next) (omega arith))
+returns c = let a = c .before .before .before .args in rw (le-leb (a .n) (a .next) (omega arith))
 
 returns-2 : tie.Need-returns-2
 returns-2 c =
-    let a = c .before .before .before .before .args in
+    let a = c .before .before .before .before .before .args in
     rw (lt-leb (a .n) (a .next) (omega arith), sym (c .before .is-again .ensures) ∙ c .if2 .taken)
 
 returns-3 : tie.Need-returns-3
 returns-3 c =
     let l = c .before in
     let g = l .before .before in
-    let a = g .before .before .before .args in
+    let a = g .before .before .before .before .args in
     rw (
       lt-leb (a .n) (a .next) (omega arith),
       sym (g .is-again .ensures) ∙ l .before .if2 .left,
@@ -34,7 +34,7 @@ returns-4 c =
     let b = c .before in
     let l = b .before .before in
     let g = l .before .before in
-    let a = g .before .before .before .args in
+    let a = g .before .before .before .before .args in
     rw (
       lt-leb (a .n) (a .next) (omega arith),
       sym (g .is-again .ensures) ∙ l .before .if2 .left,
@@ -48,7 +48,7 @@ returns-5 c =
     let b = e .before in
     let l = b .before .before in
     let g = l .before .before in
-    let a = g .before .before .before .args in
+    let a = g .before .before .before .before .args in
     rw (
       lt-leb (a .n) (a .next) (omega arith),
       sym (g .is-again .ensures) ∙ l .before .if2 .left,
@@ -64,7 +64,7 @@ returns-6 c =
     let b = e .before in
     let l = b .before .before in
     let g = l .before .before in
-    let a = g .before .before .before .args in
+    let a = g .before .before .before .before .args in
     rw (
       lt-leb (a .n) (a .next) (omega arith),
       sym (g .is-again .ensures) ∙ l .before .if2 .left,
@@ -83,7 +83,7 @@ returns-7 c =
     let b = e .before in
     let l = b .before .before in
     let g = l .before .before in
-    let a = g .before .before .before .args in
+    let a = g .before .before .before .before .args in
     rw (
       lt-leb (a .n) (a .next) (omega arith),
       sym (g .is-again .ensures) ∙ l .before .if2 .left,
@@ -103,7 +103,7 @@ returns-8 c =
     let b = e .before in
     let l = b .before .before in
     let g = l .before .before in
-    let a = g .before .before .before .args in
+    let a = g .before .before .before .before .args in
     rw (
       lt-leb (a .n) (a .next) (omega arith),
       sym (g .is-again .ensures) ∙ l .before .if2 .left,

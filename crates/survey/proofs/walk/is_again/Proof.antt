@@ -10,4 +10,4 @@ pub is-again-spec : {M : Type 1} → statement M
 is-again-spec =
     tie.close
     (tie.spec (λ c κs. search needs) (λ c κs. search needs)
-    (λ c. c .and .ensures ∙ ap (λ (b : Bool). both (not (eqb (c .before .before .args .next) 0)) b) (c .before .has .ensures)))
+    (λ c. c .and .ensures ∙ ap (λ (b : Bool). both (not (eqb (c .before .before .before .args .next) 0)) b) (c .before .has .ensures)))

@@ -10,7 +10,7 @@ use Rattle.header.specs.Header.{bitsOf}
 use Rattle.leaf.specs.Leaf.{leafIn}
 use Rattle.leaf.specs.Tally.{twins}
 use Rattle.leaf.specs.SearchSteps.{in-lock, key-small}
-use Rattle.survey.specs.Walk.{stateOf, moved, reachedBy}
+use Rattle.survey.specs.Walk.{stateIn, moved, reachedBy}
 use Rattle.survey.specs.Turns.{fault-near, fault-is, judged-on, judged-stop, few-entries, smallest-told}
 use Rattle.survey.proofs.walk.judge.Statement.{statement}
 use Rattle.survey.proofs.walk.judge.Tie as tie
@@ -20,34 +20,35 @@ small l h s = omega (arith, key-small l s h)
 
 onward-requires : tie.Need-onward-requires
 onward-requires c κs =
-    let f = c .before .before in
-    let t = f .before .before .before .before .before .before .before .before .before .before in
+    let f = c .before .before .before in
+    let t = f .before .before .before .before .before .before .before .before .before .before .before in
     let n = t .before .before .before in
-    let st = n .before .before .before .before .before .before in
+    let st = n .before .before .before .before .before .before .before in
     let a = st .args in
     let near = fault-near (a .n) (n .next-of .result) (bitsOf (n .before .read .result)) (twins (leafIn (now (a .leaf))))
     (t .tally-of .result)
     (reachedBy (t .tally-of .result) (a .w .last))
-    (stateOf (a .w)) (sym (f .fault-of .ensures) ∙ c .before .if1 .taken) in
-    (omega (arith, st .pre .1), st .pre .3, st .pre .4, few-entries (now (a .leaf)) (t .tally-of .result) (t .tally-of .ensures .0))
+    (stateIn (a .w) (now (a .met))) (sym (f .fault-of .ensures) ∙ c .before .before .if1 .taken) in
+    (st .pre .3, omega (arith, st .pre .1), st .pre .4, st .pre .5, few-entries (now (a .leaf)) (t .tally-of .result) (t .tally-of .ensures .0))
 
 returns : tie.Need-returns
 returns c =
-    let f = c .before .before .before in
-    let m = f .before .before .before .before .before in
+    let o = c .before .before in
+    let f = o .before .before .before .before in
+    let m = f .before .before .before .before .before .before in
     let t = m .before .before .before .before .before in
     let n = t .before .before .before in
-    let g = n .before .before .before .before .before in
+    let g = n .before .before .before .before .before .before in
     let a = g .before .args in
     let L = leafIn (now (a .leaf)) in
     let few = small (now (a .leaf)) (λ i. omega (arith, g .shared-slice-known .given i)) in (
-      c .onward .ensures
+      o .onward .ensures
           ∙ ap (λ (x : ℕ). moved (n .next-of .result) (t .tally-of .result .entries) x (t .tally-of .result .most)
-          (stateOf (a .w))) (c .before .reaches .ensures)
-          ∙ judged-on L (a .n) (a .key) (stateOf (a .w)) (f .fault-of .result)
+          (stateIn (a .w) (now (a .met)))) (o .before .reaches .ensures)
+          ∙ judged-on L (a .n) (a .key) (stateIn (a .w) (now (a .met))) (f .fault-of .result)
           (f .fault-of .ensures
           ∙ fault-is L (a .n) (n .next-of .result) (bitsOf (n .before .read .result)) (t .tally-of .result)
-          (stateOf (a .w)) (t .tally-of .ensures .0)
+          (stateIn (a .w) (now (a .met))) (t .tally-of .ensures .0)
           few
           (n .next-of .ensures)
           (in-lock (now (a .leaf)) _ (n .before .read .ensures)))
@@ -56,33 +57,33 @@ returns c =
           (t .tally-of .ensures .0)
           few
           (n .next-of .ensures)
-          (c .before .before .if1 .taken),
+          (o .before .before .before .if1 .taken),
       t .tally-of .ensures .2,
-      m .note-leaf .ensures .0 ∙ ap (set (now (a .leasts)) (a .i)) (smallest-told L (t .tally-of .result) (t .tally-of .ensures .0) few),
+      m .note-leaf .ensures .0 ∙ ap (set (now (a .leasts)) (a .w .leaves)) (smallest-told L (t .tally-of .result) (t .tally-of .ensures .0) few),
       m .note-leaf .ensures .1,
     )
 
 returns-2 : tie.Need-returns-2
 returns-2 c =
     let f = c .before .before in
-    let m = f .before .before .before .before .before in
+    let m = f .before .before .before .before .before .before in
     let t = m .before .before .before .before .before in
     let n = t .before .before .before in
-    let g = n .before .before .before .before .before in
+    let g = n .before .before .before .before .before .before in
     let a = g .before .args in
     let L = leafIn (now (a .leaf)) in
     let few = small (now (a .leaf)) (λ i. omega (arith, g .shared-slice-known .given i)) in (
-      c .stop .ensures
-          ∙ judged-stop L (a .n) (a .key) (stateOf (a .w)) (f .fault-of .result)
+      c .stop .ensures (now (a .met))
+          ∙ judged-stop L (a .n) (a .key) (stateIn (a .w) (now (a .met))) (f .fault-of .result)
           (f .fault-of .ensures
           ∙ fault-is L (a .n) (n .next-of .result) (bitsOf (n .before .read .result)) (t .tally-of .result)
-          (stateOf (a .w)) (t .tally-of .ensures .0)
+          (stateIn (a .w) (now (a .met))) (t .tally-of .ensures .0)
           few
           (n .next-of .ensures)
           (in-lock (now (a .leaf)) _ (n .before .read .ensures)))
           (c .before .if1 .left),
       t .tally-of .ensures .2,
-      m .note-leaf .ensures .0 ∙ ap (set (now (a .leasts)) (a .i)) (smallest-told L (t .tally-of .result) (t .tally-of .ensures .0) few),
+      m .note-leaf .ensures .0 ∙ ap (set (now (a .leasts)) (a .w .leaves)) (smallest-told L (t .tally-of .result) (t .tally-of .ensures .0) few),
       m .note-leaf .ensures .1,
     )
 
@@ -92,4 +93,5 @@ judge-spec =
     (tie.spec
     (λ c κs. search needs) (λ c κs. search needs) (λ c κs. search needs) (λ c κs. search needs) (λ c κs. search needs)
     (λ c κs. search needs) (λ c κs. search needs) onward-requires (λ c. search needs) (λ c. search needs) (λ c. search needs)
-    returns (λ c κs. search needs) (λ c. search needs) (λ c. search needs) (λ c. search needs) returns-2)
+    (λ c. search needs) returns (λ c κs. search needs) (λ c. search needs) (λ c. search needs) (λ c. search needs)
+    (λ c. search needs) returns-2)

@@ -1,7 +1,8 @@
 use borrow.Author.Needs.{needs}
+use denote.Ref.{now}
 use Prim.Native.Nat.{_+_}
 use mathlib.Core.Path.{ap, _∙_}
-use Rattle.survey.specs.Marks.{blocksIn, isIn, in-with}
+use Rattle.survey.specs.Marks.{wordsIn, isIn, in-with}
 use Rattle.survey.proofs.walk.onward.Statement.{statement}
 use Rattle.survey.proofs.walk.onward.Tie as tie
 
@@ -10,7 +11,8 @@ returns c =
     let p3 = c .before .before .before .before .before in
     let p2 = p3 .before in
     let p1 = p2 .before in
-    let a = p1 .before .before .before .args in
+    let m = p1 .before .before .before in
+    let a = m .before .before .before .args in
     λ i. record {
       stage = p1 .pick .ensures i;
       at = a .next;
@@ -20,7 +22,7 @@ returns c =
       leaves = a .w .leaves + 1;
       entries = a .w .entries + a .t .entries;
       last = c .pick4 .ensures i;
-      met = (ap isIn (p1 .before .with .ensures) ∙ in-with (blocksIn (a .w .met)) (a .next)) i;
+      met = (ap isIn (m .mark .ensures) ∙ in-with (wordsIn (now (a .met))) (a .next)) i;
     }
 
 pub onward-spec : {M : Type 1} → statement M
@@ -28,4 +30,4 @@ onward-spec =
     tie.close
     (tie.spec
     (λ c κs. search needs) (λ c κs. search needs) (λ c κs. search needs) (λ c κs. search needs) (λ c. search needs)
-    (λ c. search needs) (λ c κs. search needs) returns)
+    (λ c. search needs) (λ c κs. search needs) (λ c. search needs) returns)

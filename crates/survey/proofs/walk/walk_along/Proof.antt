@@ -1,114 +1,99 @@
--- The invariant: the walk is in bounds, what is left of it gives what the whole walk gives, and what is behind is noted.
+-- The invariant: the walk goes on, and keeps what a walk keeps after as many turns as it has passed leaves.
 use borrow.Author.Needs.{needs}
 use native.Mathlib.Omega.{arith}
-use Prim.Native.Nat.{_-_, _/_, _≤_, _<_}
-use mathlib.Core.Path.{_≡_, refl, sym, ap, subst, _∙_}
+use Prim.Native.Nat.{_+_, _-_, _/_, _≤_}
+use mathlib.Core.Path.{_≡_, refl, sym, ap, _∙_}
 use denote.Ref.{now}
 use lib.ListN.{length, length-set}
 use Rattle.words.specs.Words.{reads}
-use Rattle.leaf.specs.Leaf.{view}
-use Rattle.survey.specs.Walk.{State, stateOf, walk, surveyed, NotedTo}
-use Rattle.survey.specs.Turns.{Bounded, start-bounded, turn-bounded, walk-whole, walk-turn, walk-stop, walk-end}
-use Rattle.survey.specs.Turns.{way, Coming, coming-all, coming-here, coming-next, coming-stop, coming-end}
-use Rattle.survey.specs.Turns.{noted-none, noted-next, noted-all}
+use Rattle.survey.specs.Walk.{State, stateIn}
+use Rattle.survey.specs.Turns.{Kept, kept-start, kept-turn, kept-on, kept-stop, kept-end, judged-goes}
 use Rattle.survey.proofs.walk.walk_along.Statement.{statement}
 use Rattle.survey.proofs.walk.walk_along.Tie as tie
 
 abbrev Inv-loop : tie.InvT-loop
-Inv-loop image key stamps₀ leasts₀ numbers₀ n w₀ i₀ stamps leasts numbers w i =
-    let I = view (reads image) in
-    (i ≤ n) × (length stamps ≡ length stamps₀) × (length leasts ≡ length leasts₀) × (length numbers ≡ length numbers₀)
-    × Bounded n i (stateOf w) × (walk I n key (n - i) (stateOf w) ≡ surveyed I n key)
-    × Coming I n key i (stateOf w) × NotedTo I (way I n key) i leasts numbers
+Inv-loop image key stamps₀ met₀ leasts₀ numbers₀ n w₀ stamps met leasts numbers w =
+    (w .leaves ≤ n) × (w .stage ≡ 0) × (length stamps ≡ length stamps₀) × (length met ≡ 4) × (length leasts ≡ length leasts₀)
+    × (length numbers ≡ length numbers₀) × Kept (reads image) n key (w .leaves) (stateIn w met) leasts numbers
 
 abbrev μ-loop : tie.MeasureT-loop
-μ-loop image key stamps₀ leasts₀ numbers₀ n w₀ i₀ stamps leasts numbers w i = n - i
+μ-loop image key stamps₀ met₀ leasts₀ numbers₀ n w₀ stamps met leasts numbers w = n - w .leaves
 
 loop-holds : tie.Need-loop-holds Inv-loop μ-loop
 loop-holds c =
-    let a = c .before .before .before .before .before .args in
-    let I = view (reads (now (a .image))) in
-    let N = length (now (a .image)) / 256 in (
+    let b = c .before .before in
+    let a = b .before .before .before .before .before .before .before .args in
+    let N = length (now (a .image)) / 256 in
+    let e = b .begun .ensures in
+    let none : b .begun .result .leaves ≡ 0 = ap (λ (st : State). st .leaves) e in (
       omega arith,
+      ap (λ (st : State). st .stage) e,
+      refl,
+      search needs,
       refl,
       refl,
-      refl,
-      subst (λ (st : State). Bounded N 0 st) (sym (c .begun .ensures)) (start-bounded N (omega arith)),
-      walk-whole I N (a .key) _ (c .begun .ensures),
-      coming-all I N (a .key) _ (c .begun .ensures),
-      noted-none I (way I N (a .key)) (now (a .leasts)) (now (a .numbers)),
+      kept-start (reads (now (a .image))) N (a .key) _ (now (a .leasts)) (now (a .numbers)) (omega arith) e,
     )
 
 turn-requires : tie.Need-turn-requires Inv-loop μ-loop
 turn-requires c κs =
     let k = c .before .before .before .before .before .before in
-    let b = k .loop .inv .4 in
-    let same = k .before .before .before .before .before .before .pre .3 in
-    (omega arith, omega arith, b .at, omega arith, omega (arith, b .leaves), omega (arith, b .entries), omega (arith, same))
+    let b = k .loop .inv .6 .bounded in
+    let same = k .before .before .before .before .before .before .before .before .before .before .pre .5 in
+    (omega arith, omega arith, b .at, omega arith, k .loop .inv .3, omega arith, omega (arith, b .entries), omega (arith, same))
+
+loop-less : tie.Need-loop-less Inv-loop μ-loop
+loop-less c =
+    let t = c .before .before .before .before .before .before .before .before .before .before in
+    let e = judged-goes _ _ _ _ _ (t .turn .ensures .0) (c .if2 .left) in
+    omega (arith, e)
 
 loop-again : tie.Need-loop-again Inv-loop μ-loop
 loop-again c =
-    let t = c .before .before .before .before .before .before in
+    let t = c .before .before .before .before .before .before .before .before .before .before in
     let k = t .before .before .before .before .before .before .before in
-    let a = k .before .before .before .before .before .before .args in
+    let a = k .before .before .before .before .before .before .before .before .before .before .args in
     let w = reads (now (a .image)) in
     let N = length (now (a .image)) / 256 in
-    let st = stateOf (k .loop .w) in
-    let on = t .before .before .before .before .if1 .left in
-    let i = k .loop .i in
-    let lt : i < N = omega arith in (
+    let e : t .turn .result .leaves ≡ k .loop .w .leaves + 1 = judged-goes _ _ _ _ _ (t .turn .ensures .0) (c .if2 .left) in (
       omega arith,
-      t .turn .ensures .1 ∙ k .loop .inv .1,
-      ap length (t .turn .ensures .2) ∙ length-set (k .loop .leasts) i _ ∙ k .loop .inv .2,
-      ap length (t .turn .ensures .3) ∙ length-set (k .loop .numbers) i _ ∙ k .loop .inv .3,
-      turn-bounded w N (a .key) i st (stateOf (t .turn .result)) (k .loop .inv .4) (t .turn .ensures .0),
-      walk-turn (view w) N (a .key) i st (stateOf (t .turn .result)) (surveyed (view w) N (a .key)) lt on (t .turn .ensures .0)
-          (k .loop .inv .5),
-      coming-next (view w) N (a .key) i st (k .loop .inv .6) (stateOf (t .turn .result)) lt on (t .turn .ensures .0),
-      noted-next (view w) (way (view w) N (a .key)) i (st .at) (k .loop .leasts) (k .loop .numbers) _ _
-          (coming-here (view w) N (a .key) i st (k .loop .inv .6) lt on)
-          (k .loop .inv .7)
-          (t .turn .ensures .2)
-          (t .turn .ensures .3),
+      c .if2 .left,
+      t .turn .ensures .1 ∙ k .loop .inv .2,
+      search needs,
+      ap length (t .turn .ensures .2) ∙ length-set (k .loop .leasts) (k .loop .w .leaves) _ ∙ k .loop .inv .4,
+      ap length (t .turn .ensures .3) ∙ length-set (k .loop .numbers) (k .loop .w .leaves) _ ∙ k .loop .inv .5,
+      kept-on w N (a .key) _ _ _ _ (t .turn .ensures .0) (c .if2 .left)
+          (kept-turn w N (a .key) _ _ _ _ _ _ _ (k .loop .inv .6) (omega arith) (k .loop .inv .1) (t .turn .ensures .0)
+          (t .turn .ensures .2) (t .turn .ensures .3)),
     )
+
+same-words : tie.Need-same-length-2 Inv-loop μ-loop
+same-words c =
+    let m = c .before .before .before .before .before .before .before in
+    let k = m .before .before .before .before .before .before .before .before .before .before in
+    m .met2 .given ∙ k .loop .inv .3 ∙ sym (k .before .before .before .before .before .before .before .before .before .before .pre .3)
 
 returns : tie.Need-returns Inv-loop μ-loop
 returns c =
-    let k = c .before .before .before in
-    let a = k .before .before .before .before .before .before .args in
-    let I = view (reads (now (a .image))) in
+    let t = c .before .before .before .before .before .before .before .before .before .before in
+    let k = t .before .before .before .before .before .before .before in
+    let a = k .before .before .before .before .before .before .before .before .before .before .args in
+    let w = reads (now (a .image)) in
     let N = length (now (a .image)) / 256 in
-    let st = stateOf (k .loop .w) in (
-      sym (walk-stop I N (a .key) _ st (c .if1 .taken)) ∙ k .loop .inv .5,
-      noted-all I (way I N (a .key)) (k .loop .i) _ _ (coming-stop I N (a .key) (k .loop .i) st (k .loop .inv .6) (c .if1 .taken))
-          (k .loop .inv .7),
-    )
+    kept-stop w N (a .key) _ _ _ _
+    (kept-turn w N (a .key) _ _ _ _ _ _ _ (k .loop .inv .6) (omega arith) (k .loop .inv .1) (t .turn .ensures .0)
+    (t .turn .ensures .2) (t .turn .ensures .3)) (c .if2 .taken)
 
 returns-2 : tie.Need-returns-2 Inv-loop μ-loop
 returns-2 c =
-    let k = c .before in
-    let a = k .before .before .before .before .before .before .args in
-    let I = view (reads (now (a .image))) in
+    let k = c .before .before in
+    let a = k .before .before .before .before .before .before .before .before .before .before .args in
     let N = length (now (a .image)) / 256 in
-    let st = stateOf (k .loop .w) in
-    let done : N ≤ k .loop .i = omega arith in (
-      sym (walk-end I N (a .key) (k .loop .i) st done) ∙ k .loop .inv .5,
-      noted-all I (way I N (a .key)) (k .loop .i) _ _ (coming-end I N (a .key) (k .loop .i) st (k .loop .inv .6) done)
-          (k .loop .inv .7),
-    )
+    kept-end (reads (now (a .image))) N (a .key) _ _ _ _ (k .loop .inv .6) (omega arith)
 
 pub walk-along-spec : {M : Type 1} → statement M
 walk-along-spec =
     tie.close
-    (tie.spec Inv-loop μ-loop (λ c κs. search needs) loop-holds
-    (λ c. c .before .before .before .loop .inv .1)
-    (λ c. c .before .before .before .loop .inv .2)
-    (λ c. c .before .before .before .loop .inv .3)
-    returns turn-requires
-    (λ c. omega arith)
-    (λ c. omega arith)
-    loop-again
-    (λ c. c .before .loop .inv .1)
-    (λ c. c .before .loop .inv .2)
-    (λ c. c .before .loop .inv .3)
-    returns-2)
+    (tie.spec Inv-loop μ-loop (λ c κs. search needs) loop-holds turn-requires
+    (λ c. search needs) same-words (λ c. search needs) (λ c. search needs) returns loop-less loop-again
+    (λ c. search needs) (λ c. search needs) (λ c. search needs) (λ c. search needs) returns-2)

@@ -8,19 +8,19 @@ pub first-out-spec : {M : Type 1} → statement M
 first-out-spec =
     tie.close
     (tie.spec (λ c κs. search needs)
-    (λ c. out-a _ _ _ _ (omega arith) (omega arith) (omega arith) _ (c .before .lowest-zero .ensures) (omega arith))
+    (λ c. out-a _ _ _ _ (omega arith) (omega arith) (omega arith) (omega arith) _ (c .before .lowest-zero .ensures) (omega arith))
     (λ c κs. search needs)
     (λ c. omega arith)
     (λ c. let z = c .before in
-    out-b _ _ _ _ (omega arith) (omega arith) (omega arith) _ (z .before .before .lowest-zero .ensures) (omega arith) _
+    out-b _ _ _ _ (omega arith) (omega arith) (omega arith) (omega arith) _ (z .before .before .lowest-zero .ensures) (omega arith) _
     (z .lowest-zero2 .ensures) (omega arith))
     (λ c κs. search needs)
     (λ c. omega arith)
     (λ c. let x = c .before in let z = x .before .before in
-    out-c _ _ _ _ (omega arith) (omega arith) (omega arith) _ (z .before .before .lowest-zero .ensures) (omega arith) _
+    out-c _ _ _ _ (omega arith) (omega arith) (omega arith) (omega arith) _ (z .before .before .lowest-zero .ensures) (omega arith) _
     (z .lowest-zero2 .ensures) (omega arith) _ (x .lowest-zero3 .ensures) (omega arith))
     (λ c κs. search needs)
     (λ c. omega (arith, c .lowest-zero4 .ensures .most))
     (λ c. let x = c .before .before in let z = x .before .before in
-    out-d _ _ _ _ (omega arith) (omega arith) (omega arith) _ (z .before .before .lowest-zero .ensures) (omega arith) _
+    out-d _ _ _ _ (omega arith) (omega arith) (omega arith) (omega arith) _ (z .before .before .lowest-zero .ensures) (omega arith) _
     (z .lowest-zero2 .ensures) (omega arith) _ (x .lowest-zero3 .ensures) (omega arith) _ (c .lowest-zero4 .ensures)))
