@@ -17,4 +17,3 @@ pub mod Freed
 pub mod Alike
 pub mod Computing
 pub mod Cases
-pub mod Tight

@@ -14,7 +14,7 @@ use Rattle.perform.specs.Perform.{textOf, Performed, Done}
 use Rattle.demands.specs.Calls.{Asked, find, listing, recovery, put, set, del, run, cut}
 use Rattle.demands.specs.Unique.{one-answer}
 
--- ---- the contracts of the C interface, as `Calls` has those below: `src/outside.rt` proves that they are the sources'
+-- ---- the contracts of the C interface, as `Calls` has those below: `contracts/src/outside.rt` proves that they are the sources'
 
 abbrev pub OutsideResult : Asked → Type 0
 OutsideResult (find image key) = HutFound

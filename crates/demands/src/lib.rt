@@ -1,4 +1,1 @@
-// The calls once more, each promising what the demands speak of: so that the family of contracts in specs/Calls and
-// specs/UniqueOutside is the sources' by proof, and not by a reader's eye.
-mod inside;
-mod outside;
+// Theory only: all of it stands in specs/.
