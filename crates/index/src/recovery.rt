@@ -4,8 +4,10 @@ use leaf::place::Leaf;
 use machine::bad_image;
 use survey::walk::survey_noting;
 ghost use mathlib.Core.Path.{_≡_};
-ghost use Prim.Native.Nat.{_≤_};
+ghost use mathlib.Core.Bool.{false};
+ghost use Prim.Native.Nat.{_/_, _≤_};
 ghost use lib.ListN.{length};
+ghost use Rattle.steps.specs.Refusals.{badImage};
 ghost use Rattle.index.specs.Reading.{isShort, recoveredAs, recoveryIs, recoveryOf};
 ghost use Rattle.index.specs.RecoveryLaws.{Copied};
 
@@ -36,6 +38,23 @@ fn is_short(n: usize, smallest: usize, numbers: usize) -> bool
     if smallest < n { true } else { numbers < n }
 }
 
+// Of an image of a good length, into buffers that are long enough.
+fn noted(image: &[u8], smallest: &mut [u64], blocks: &mut [u64]) -> Recovered
+    requires { ⌜ (badImage (length (now image)) ≡ false)
+        × (isShort (length (now image) / 256) (length (now smallest)) (length (now blocks)) ≡ false) ⌝ }
+    ensures { λ r. ⌜ recoveryIs (recoveredAs r) (now (smallest .exit)) (now (blocks .exit))
+        ≡ recoveryOf (now (image .entry)) (now (smallest .entry)) (now (blocks .entry)) ⌝ }
+{
+    let mut leasts = [0u64; 256];
+    let mut numbers = [0u8; 256];
+    let w = survey_noting(image, 0, &mut leasts, &mut numbers);
+    if w.stage != 1 {
+        return Recovered::Unsound;
+    }
+    copy_notes(&leasts, &numbers, w.leaves as usize, smallest, blocks);
+    Recovered::Leaves(w.leaves, w.entries)
+}
+
 pub fn recovery(image: &[u8], smallest: &mut [u64], blocks: &mut [u64]) -> Recovered
     ensures { λ r. ⌜ recoveryIs (recoveredAs r) (now (smallest .exit)) (now (blocks .exit))
         ≡ recoveryOf (now (image .entry)) (now (smallest .entry)) (now (blocks .entry)) ⌝ }
@@ -46,12 +65,5 @@ pub fn recovery(image: &[u8], smallest: &mut [u64], blocks: &mut [u64]) -> Recov
     if is_short(image.len() / Leaf::BYTES, smallest.len(), blocks.len()) {
         return Recovered::ShortBuffer;
     }
-    let mut leasts = [0u64; 256];
-    let mut numbers = [0u8; 256];
-    let w = survey_noting(image, 0, &mut leasts, &mut numbers);
-    if w.stage != 1 {
-        return Recovered::Unsound;
-    }
-    copy_notes(&leasts, &numbers, w.leaves as usize, smallest, blocks);
-    Recovered::Leaves(w.leaves, w.entries)
+    noted(image, smallest, blocks)
 }
