@@ -1,7 +1,7 @@
 // The calls that write a list of steps.
+use change::del;
+use change::set;
 use writing::Made;
-use writing::change::del;
-use writing::change::set;
 use writing::put::put;
 ghost use mathlib.Core.Path.{_≡_};
 ghost use mathlib.Core.List.{[]};

@@ -1,4 +1,6 @@
 // The calls of `index`, `writing` and `machine`.
+use change::del;
+use change::set;
 use index::find::Found;
 use index::find::find;
 use index::listing::Listed;
@@ -9,8 +11,6 @@ use machine::Ran;
 use machine::cut;
 use machine::run;
 use writing::Made;
-use writing::change::del;
-use writing::change::set;
 use writing::put::put;
 ghost use Rattle.demands.specs.Calls.{Allowed};
 ghost use Rattle.demands.specs.Calls as asked;

@@ -1,6 +1,5 @@
-// The calls that make lists of steps.
-mod block;
-pub mod change;
+// The calls that make lists of steps: what they answer, and put. Set and del stand in `change`.
+pub mod block;
 pub mod put;
 
 use steps::LineWrites;

@@ -48,7 +48,7 @@ fn put(image: &mut [u8], key: u64) {
 
 fn set(image: &mut [u8], key: u64, value: u64) {
     let mut list = [0u64; LIST_ROOM];
-    let n = tell_made(writing::change::set(image, &mut list, key, value));
+    let n = tell_made(change::set(image, &mut list, key, value));
     machine::run(image, &list, n as usize);
     end_line();
 }
@@ -56,7 +56,7 @@ fn set(image: &mut [u8], key: u64, value: u64) {
 // The first step is told too: the place of its store and the word stored.
 fn del(image: &mut [u8], key: u64) {
     let mut list = [0u64; LIST_ROOM];
-    let n = tell_made(writing::change::del(image, &mut list, key));
+    let n = tell_made(change::del(image, &mut list, key));
     machine::run(image, &list, n as usize);
     tell(list[0]);
     tell(list[1]);
