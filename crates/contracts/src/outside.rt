@@ -1,16 +1,16 @@
 // The C interface.
-use board::making::HutMade;
 use board::making::hut_del;
 use board::making::hut_put;
 use board::making::hut_set;
-use board::reading::HutFound;
-use board::reading::HutListed;
-use board::reading::HutRecovered;
 use board::reading::hut_find;
 use board::reading::hut_listing;
 use board::reading::hut_recovery;
 use board::taking::hut_cut;
 use board::taking::hut_run;
+use told::making::HutMade;
+use told::reading::HutFound;
+use told::reading::HutListed;
+use told::reading::HutRecovered;
 ghost use Rattle.demands.specs.Calls as asked;
 ghost use Rattle.demands.specs.UniqueOutside.{Outside};
 

@@ -5,10 +5,10 @@ use Prim.Native.Nat.{ℕ}
 use Rattle.machine.specs.Taking.{Outcome as Taken, runOf, cutOf}
 use Rattle.index.specs.Reading.{told, findOf, counted, listingIs, listingOf, sizes, recoveryIs, recoveryOf}
 use Rattle.writing.specs.Writing.{Outcome, putOf, setOf, delOf}
-use Rattle.board.specs.declared.reading.HutFound.{HutFound}
-use Rattle.board.specs.declared.reading.HutListed.{HutListed}
-use Rattle.board.specs.declared.reading.HutRecovered.{HutRecovered}
-use Rattle.board.specs.declared.making.HutMade.{HutMade}
+use Rattle.told.specs.declared.reading.HutFound.{HutFound}
+use Rattle.told.specs.declared.reading.HutListed.{HutListed}
+use Rattle.told.specs.declared.reading.HutRecovered.{HutRecovered}
+use Rattle.told.specs.declared.making.HutMade.{HutMade}
 use Rattle.board.specs.Told.{madeIs}
 use Rattle.perform.specs.Perform.{textOf, Performed, Done}
 use Rattle.demands.specs.Calls.{Asked, find, listing, recovery, put, set, del, run, cut}

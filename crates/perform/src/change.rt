@@ -1,12 +1,12 @@
 // Put, set and del: the list made is run whole, and the counts are told.
 use crate::ROOM;
 use crate::answer::answer_line;
-use board::making::HutMade;
 use board::making::hut_del;
 use board::making::hut_put;
 use board::making::hut_set;
 use board::taking::hut_run;
 use steps::LIST_ROOM;
+use told::making::HutMade;
 ghost use mathlib.Core.Path.{_≡_};
 ghost use mathlib.Core.Bool.{cond};
 ghost use lib.Dec.{eqb};
