@@ -12,15 +12,17 @@ use lib.Dec.{eqb}
 use lib.ListN.{length, getD, take, drop, length-append, length-drop, drop-of-length-le}
 use lib.Seq.{take-at, drop-at, drop-drop, split-at, append-snoc}
 use Rattle.words.specs.Bools.{both, by-test, differ, never}
-use Rattle.command.specs.Spelling.{decimal, put-word, set-word, del-word, get-word, list-word, spelling, InRange}
-use Rattle.command.specs.Reading.{until, begins, spelledBy, fieldOf, fieldAt, pairOf, pairFrom, pairAt}
+use Rattle.number.specs.Decimal.{decimal}
+use Rattle.number.specs.Reading.{spelledBy}
+use Rattle.number.specs.DecimalLaws.{by-digits, decimal-small, decimal-more, decimal-some, number-decimal, number-read}
+use Rattle.number.specs.declared.Number.{Number}
+use Rattle.number.specs.declared.Number.the-variants.{Is, Not}
+use Rattle.command.specs.Spelling.{put-word, set-word, del-word, get-word, list-word, spelling, InRange}
+use Rattle.command.specs.Reading.{until, begins, fieldOf, fieldAt, pairOf, pairFrom, pairAt}
 use Rattle.command.specs.Reading.{past-tab, tabbed, asPut, asSet, asDel, asGet, parseOf}
-use Rattle.command.specs.Decimal.{by-digits, decimal-small, decimal-more, decimal-some, number-decimal, number-read}
 use Rattle.command.specs.declared.Command.{Command}
 use Rattle.command.specs.declared.Command.the-variants.{Put, Set, Del, Get, List as Listing, Malformed}
 use Rattle.command.specs.declared.Field.the-variants.{Number as number}
-use Rattle.command.specs.declared.number.Number.{Number}
-use Rattle.command.specs.declared.number.Number.the-variants.{Is, Not}
 use Rattle.command.specs.declared.Pair.{Pair}
 use Rattle.command.specs.declared.Pair.the-variants.{Both, Nothing as no-pair}
 

@@ -2,6 +2,5 @@
 pub mod Spelling
 pub mod Reading
 pub mod ReadingLaws
-pub mod Decimal
 pub mod Exact
 pub mod Lines

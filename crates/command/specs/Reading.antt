@@ -1,10 +1,13 @@
 -- What each function that reads answers, in the shape of its code. What it means is proved in Exact and Lines.
-use Prim.Native.Nat.{ℕ, suc, _+_, _-_, _*_}
+use Prim.Native.Nat.{ℕ, suc, _+_}
 use mathlib.Core.Bool.{Bool, true, false, cond}
 use mathlib.Core.List.{List, [], _∷_, _++_}
 use lib.Dec.{eqb, ltb}
 use lib.ListN.{length, take, drop}
 use Rattle.words.specs.Bools.{both}
+use Rattle.number.specs.declared.Number.{Number}
+use Rattle.number.specs.declared.Number.the-variants.{Is, Not}
+use Rattle.number.specs.Reading.{spelledBy}
 use Rattle.command.specs.Spelling.{put-word, set-word, del-word, get-word, list-word}
 use Rattle.command.specs.declared.Command.{Command}
 use Rattle.command.specs.declared.Command.the-variants.{Put, Set, Del, Get, List as Listing, Malformed}
@@ -12,8 +15,6 @@ use Rattle.command.specs.declared.Next.{Next}
 use Rattle.command.specs.declared.Next.the-variants.{Line, End}
 use Rattle.command.specs.declared.Field.{Field}
 use Rattle.command.specs.declared.Field.the-variants.{Number as number, Nothing as no-field}
-use Rattle.command.specs.declared.number.Number.{Number}
-use Rattle.command.specs.declared.number.Number.the-variants.{Is, Not}
 use Rattle.command.specs.declared.Pair.{Pair}
 use Rattle.command.specs.declared.Pair.the-variants.{Both, Nothing as no-pair}
 
@@ -27,43 +28,6 @@ unfoldable pub begins : List ℕ → List ℕ → Bool
 begins [] l = true
 begins (w ∷ ws) [] = false
 begins (w ∷ ws) (b ∷ l) = both (eqb b w) (begins ws l)
-
--- the bytes of the digits, from `0` to `9`
-abbrev pub byte-zero : ℕ
-byte-zero = 48
-
-abbrev pub byte-nine : ℕ
-byte-nine = 57
-
-abbrev pub digitOf : ℕ → Number
-digitOf b = cond (ltb b byte-zero) Not (cond (ltb byte-nine b) Not (Is (b - byte-zero)))
-
--- the number that takes no digit behind it, so that none has a leading zero, and the largest, 2^64 - 1
-abbrev pub closed : ℕ
-closed = 0
-
-abbrev pub most : ℕ
-most = 18446744073709551615
-
--- n with a digit behind it
-abbrev pub grown : ℕ → ℕ → Number
-grown n d = cond (eqb n closed) Not (cond (ltb most (n * 10 + d)) Not (Is (n * 10 + d)))
-
-abbrev pub grownBy : ℕ → Number → Number
-grownBy n (Is d) = grown n d
-grownBy n Not = Not
-
-abbrev pub pushed : Number → ℕ → Number
-pushed (Is n) b = grownBy n (digitOf b)
-pushed Not b = Not
-
-unfoldable pub pushedAll : Number → List ℕ → Number
-pushedAll n [] = n
-pushedAll n (b ∷ bs) = pushedAll (pushed n b) bs
-
-abbrev pub spelledBy : List ℕ → Number
-spelledBy [] = Not
-spelledBy (b ∷ bs) = pushedAll (digitOf b) bs
 
 abbrev pub fieldOf : Number → ℕ → Field
 fieldOf (Is n) end = number n end

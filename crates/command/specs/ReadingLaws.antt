@@ -13,9 +13,10 @@ use lib.Dec.{eqb}
 use lib.ListN.{length, getD, take, drop, length-drop, drop-of-length-le}
 use lib.Seq.{drop-cons}
 use Rattle.words.specs.Bools.{both-none, never}
-use Rattle.command.specs.Reading.{until, begins, pushed, pushedAll, digitOf, spelledBy, fieldOf, fieldAt}
-use Rattle.command.specs.declared.number.Number.{Number}
-use Rattle.command.specs.declared.number.Number.the-variants.{Is, Not}
+use Rattle.number.specs.declared.Number.{Number}
+use Rattle.number.specs.declared.Number.the-variants.{Is, Not}
+use Rattle.number.specs.Reading.{spelledBy}
+use Rattle.command.specs.Reading.{until, begins, fieldOf, fieldAt}
 use Rattle.command.specs.declared.Field.the-variants.{Number as number, Nothing as no-field}
 
 -- ---- the next byte b
@@ -63,25 +64,6 @@ unfolding begins
 begins-short [] l h = absurd (not-suc-le-zero h)
 begins-short (a ∷ w) [] h = refl
 begins-short (a ∷ w) (b ∷ l) h = rw (begins-short w l (le-of-suc-le-suc h)) (both-none (eqb b a))
-
--- ---- the digits of a field
-
-pub pushed-next : (n : Number) (l : List ℕ) (i : ℕ) → i < length l
-    → pushedAll n (drop i l) ≡ pushedAll (pushed n (getD l i 0)) (drop (i + 1) l)
-unfolding pushedAll
-pushed-next n l i h = rw (add-one i, drop-cons l i 0 h)
-
-pub pushed-end : (n : Number) (l : List ℕ) (i : ℕ) → length l ≤ i → pushedAll n (drop i l) ≡ n
-unfolding pushedAll
-pushed-end n l i h = rw (drop-of-length-le l h)
-
-pub number-first : (l : List ℕ) → 0 < length l → spelledBy l ≡ pushedAll (digitOf (getD l 0 0)) (drop 1 l)
-number-first [] h = absurd (not-suc-le-zero h)
-number-first (b ∷ bs) h = refl
-
-pub number-none : (l : List ℕ) → length l ≡ 0 → spelledBy l ≡ Not
-number-none [] h = refl
-number-none (b ∷ bs) h = absurd (omega arith)
 
 -- ---- where fields and lines end
 

@@ -1,9 +1,10 @@
 -- Document 01, "The bench program": the lines of an input, and the spelling of a command.
-use Prim.Native.Nat.{ℕ, zero, suc, _+_, _/_, _%_, _^_, _<_}
+use Prim.Native.Nat.{ℕ, _^_, _<_}
 use mathlib.Core.Bool.{Bool, true, false}
 use mathlib.Core.List.{List, [], _∷_, _++_}
 use mathlib.Core.Option.{Option, some, none}
-use lib.Dec.{eqb, ltb}
+use lib.Dec.{eqb}
+use Rattle.number.specs.Decimal.{decimal}
 use Rattle.command.specs.declared.Command.{Command}
 use Rattle.command.specs.declared.Command.the-variants.{Put, Set, Del, Get, List as Listing, Malformed}
 
@@ -27,18 +28,6 @@ abbrev pub parted : List (List ℕ) → List ℕ
 parted [] = []
 parted (f ∷ []) = f
 parted (f ∷ g ∷ fs) = f ++ 9 ∷ parted (g ∷ fs)
-
--- "numbers decimal with no sign and no leading zero but 0 itself": n in at most k + 1 digits, ..
-unfoldable pub digits : ℕ → ℕ → List ℕ
-digits zero n = (48 + n) ∷ []
-digits (suc k) n = elim (ltb n 10) [
-  | true ↦ (48 + n) ∷ []
-  | false ↦ digits k (n / 10) ++ (48 + n % 10) ∷ []
-]
-
--- .. and n has at most n + 1
-unfoldable pub decimal : ℕ → List ℕ
-decimal n = digits n n
 
 -- "The words `put`, `set`, `del`, `get` and `list`"
 abbrev pub put-word : List ℕ

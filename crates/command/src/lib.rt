@@ -1,5 +1,4 @@
 // The bench program's lines, and the commands read from them.
-mod number;
 mod reader;
 
 use number::Number;

@@ -5,7 +5,8 @@ use mathlib.Core.List.{List, [], _∷_, _++_, map}
 use Prim.Native.Nat.{ℕ}
 use lib.Dec.{eqb, ltb}
 use lib.ListN.{length, drop, replicate}
-use Rattle.command.specs.Spelling.{parted, decimal}
+use Rattle.number.specs.Decimal.{decimal}
+use Rattle.command.specs.Spelling.{parted}
 use Rattle.command.specs.declared.Command.{Command}
 use Rattle.command.specs.declared.Command.the-variants.{Put, Set, Del, Get, List as Listing, Malformed}
 use Rattle.steps.specs.Refusals.{answer}

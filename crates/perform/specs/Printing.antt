@@ -7,8 +7,8 @@ use native.Mathlib.Decide.{decLt}
 use native.Mathlib.Omega.{arith}
 use lib.ListN.{length, take, drop, set, getD, length-append}
 use lib.Seq.{sets, sets-eq, length-sets, length-take-le}
-use Rattle.command.specs.Spelling.{decimal}
-use Rattle.command.specs.Decimal.{decimal-small, decimal-more}
+use Rattle.number.specs.Decimal.{decimal}
+use Rattle.number.specs.DecimalLaws.{decimal-small, decimal-more}
 use Rattle.perform.specs.Perform.{lineOf, textOf, Written}
 
 -- new is old with bytes stored from a place on, and next the place behind them

@@ -2,7 +2,7 @@
 ghost use Prim.Native.Nat.{_+_, _*_, _≤_};
 ghost use mathlib.Core.List.{[], _∷_, _++_};
 ghost use lib.ListN.{length};
-ghost use Rattle.command.specs.Spelling.{decimal};
+ghost use Rattle.number.specs.Decimal.{decimal};
 ghost use Rattle.perform.specs.Perform.{lineOf, textOf, Written};
 ghost use Rattle.perform.specs.Printing.{Stored, marked, rowsTo, Counts};
 

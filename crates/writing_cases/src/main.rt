@@ -42,14 +42,14 @@ fn tell_made(made: Made) -> u64 {
 fn put(image: &mut [u8], key: u64) {
     let mut list = [0u64; LIST_ROOM];
     let n = tell_made(writing::put::put(image, &mut list, key, 7));
-    machine::run(image, &list, n as usize);
+    running::run(image, &list, n as usize);
     end_line();
 }
 
 fn set(image: &mut [u8], key: u64, value: u64) {
     let mut list = [0u64; LIST_ROOM];
     let n = tell_made(change::set(image, &mut list, key, value));
-    machine::run(image, &list, n as usize);
+    running::run(image, &list, n as usize);
     end_line();
 }
 
@@ -57,7 +57,7 @@ fn set(image: &mut [u8], key: u64, value: u64) {
 fn del(image: &mut [u8], key: u64) {
     let mut list = [0u64; LIST_ROOM];
     let n = tell_made(change::del(image, &mut list, key));
-    machine::run(image, &list, n as usize);
+    running::run(image, &list, n as usize);
     tell(list[0]);
     tell(list[1]);
     end_line();

@@ -4,7 +4,7 @@ use native.Mathlib.Omega.{arith}
 use borrow.Author.Needs.{needs}
 use Rattle.command.specs.Reading.{fieldOf}
 use Rattle.command.specs.ReadingLaws.{until-within, field-none, field-to}
-use Rattle.command.specs.declared.number.Number.{Number}
+use Rattle.number.specs.declared.Number.{Number}
 use Rattle.command.proofs.field_at.Statement.{statement}
 use Rattle.command.proofs.field_at.Tie as tie
 

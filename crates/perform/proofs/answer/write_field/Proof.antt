@@ -3,7 +3,7 @@ use mathlib.Core.Path.{refl}
 use mathlib.Core.List.{[], _∷_}
 use native.Mathlib.Omega.{arith}
 use borrow.Author.Needs.{needs}
-use Rattle.command.specs.Spelling.{decimal}
+use Rattle.number.specs.Decimal.{decimal}
 use Rattle.perform.specs.Printing.{stored-behind, decimal-short}
 use Rattle.perform.proofs.answer.write_field.Statement.{statement}
 use Rattle.perform.proofs.answer.write_field.Tie as tie

@@ -12,11 +12,11 @@ use lib.Dec.{eqb, ltb}
 use lib.ListN.{length, length-append}
 use lib.Seq.{append-snoc}
 use Rattle.words.specs.Bools.{never}
-use Rattle.command.specs.Spelling.{digits, decimal}
-use Rattle.command.specs.Reading.{byte-zero, byte-nine, digitOf, closed, most, grown, grownBy}
-use Rattle.command.specs.Reading.{pushed, pushedAll, spelledBy}
-use Rattle.command.specs.declared.number.Number.{Number}
-use Rattle.command.specs.declared.number.Number.the-variants.{Is, Not}
+use Rattle.number.specs.Decimal.{digits, decimal}
+use Rattle.number.specs.Reading.{byte-zero, byte-nine, digitOf, closed, most, grown, grownBy}
+use Rattle.number.specs.Reading.{pushed, pushedAll, spelledBy}
+use Rattle.number.specs.declared.Number.{Number}
+use Rattle.number.specs.declared.Number.the-variants.{Is, Not}
 
 -- ---- the two equations of decimal
 

@@ -1,8 +1,8 @@
 -- `command::number::digit` meets its contract: each test says which case of `digitOf` holds.
 use borrow.Author.Needs.{needs}
 use borrow.Author.Tests.{lt-ltb, le-ltb}
-use Rattle.command.proofs.number.digit.Statement.{statement}
-use Rattle.command.proofs.number.digit.Tie as tie
+use Rattle.number.proofs.digit.Statement.{statement}
+use Rattle.number.proofs.digit.Tie as tie
 
 pub digit-spec : {M : Type 1} → statement M
 digit-spec =

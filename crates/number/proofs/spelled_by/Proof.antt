@@ -4,11 +4,11 @@ use Prim.Native.Nat.{_+_, _-_}
 use native.Mathlib.Omega.{arith}
 use borrow.Author.Needs.{needs}
 use lib.ListN.{length, drop}
-use Rattle.command.specs.Reading.{pushedAll, spelledBy}
-use Rattle.command.specs.ReadingLaws.{pushed-next, pushed-end, number-first, number-none}
-use Rattle.command.specs.declared.number.Number.{Number}
-use Rattle.command.proofs.number.spelled_by.Statement.{statement}
-use Rattle.command.proofs.number.spelled_by.Tie as tie
+use Rattle.number.specs.Reading.{pushedAll, spelledBy}
+use Rattle.number.specs.ReadingLaws.{pushed-next, pushed-end, number-first, number-none}
+use Rattle.number.specs.declared.Number.{Number}
+use Rattle.number.proofs.spelled_by.Statement.{statement}
+use Rattle.number.proofs.spelled_by.Tie as tie
 
 abbrev Inv-loop : tie.InvT-loop
 Inv-loop field n₀ i₀ n i = pushedAll n (drop i field) ≡ spelledBy field

@@ -1,10 +1,10 @@
 -- `command::number::push` meets its contract, arm by arm.
 use mathlib.Core.Path.{sym, ap, _∙_}
 use borrow.Author.Needs.{needs}
-use Rattle.command.specs.Reading.{grownBy, pushed}
-use Rattle.command.specs.declared.number.Number.{Number}
-use Rattle.command.proofs.number.push.Statement.{statement}
-use Rattle.command.proofs.number.push.Tie as tie
+use Rattle.number.specs.Reading.{grownBy, pushed}
+use Rattle.number.specs.declared.Number.{Number}
+use Rattle.number.proofs.push.Statement.{statement}
+use Rattle.number.proofs.push.Tie as tie
 
 returns : tie.Need-returns
 returns c =

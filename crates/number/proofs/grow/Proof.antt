@@ -3,9 +3,9 @@ use borrow.Author.Needs.{needs}
 use borrow.Author.Tests.{eq-eqb, ne-eqb, lt-ltb, le-ltb}
 use Prim.Native.Nat.{_+_, _*_}
 use native.Mathlib.Omega.{arith}
-use Rattle.command.specs.Reading.{most}
-use Rattle.command.proofs.number.grow.Statement.{statement}
-use Rattle.command.proofs.number.grow.Tie as tie
+use Rattle.number.specs.Reading.{most}
+use Rattle.number.proofs.grow.Statement.{statement}
+use Rattle.number.proofs.grow.Tie as tie
 
 pub grow-spec : {M : Type 1} → statement M
 grow-spec =
