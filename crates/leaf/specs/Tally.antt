@@ -1,6 +1,6 @@
 -- What one pass over a leaf's slots tells.
 use mathlib.Core.Path.{_≡_}
-use mathlib.Core.Bool.{Bool, false, cond, not}
+use mathlib.Core.Bool.{Bool, cond, not}
 use Prim.Native.Nat.{ℕ, zero, suc, min, max}
 use lib.Dec.{leb, eqb}
 use Rattle.words.specs.Bools.{both}
@@ -43,5 +43,3 @@ pub record Tells (L : Leaf) (t : Tally) : Type 0 where
   pub wrong : t .wrong ≡ countBelow (wrongAt L) (L .size)
   pub least : t .least ≡ leastTo L (L .size)
   pub most : t .most ≡ mostTo L (L .size)
-  -- no fingerprint came twice, so no key did
-  pub alone : t .hits ≡ 0 → twins L ≡ false

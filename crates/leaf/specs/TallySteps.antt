@@ -62,9 +62,9 @@ pub record Few (t : Tally) : Type 0 where
   pub wrong : t .wrong < 14
   pub hits : t .hits < 16384
 
--- of the first n slots, the last one's bit lowest: a slot whose bit is 0 has no twin below
+-- of the first n slots, the last one's bit lowest, and no more bits: a slot whose bit is 0 has no twin below
 abbrev pub Hits : Leaf → ℕ → ℕ → Type 0
-Hits L zero h = Unit {0}
+Hits L zero h = h ≡ 0
 Hits L (suc n) h = (h % 2 ≡ 0 → twinAt L n ≡ false) × Hits L n (h / 2)
 
 hits-none : (L : Leaf) (n : ℕ) → Hits L n 0 → anyBelow (twinAt L) n ≡ false
@@ -93,7 +93,7 @@ Stamped L number n stamps = (t : ℕ) → t < n → Taken L t → getD stamps (L
 module _ (L : Leaf) where
   pub tells-none : TellsTo L 0 (record { entries = 0; wrong = 0; least = 18446744073709551615; most = 0; hits = 0 })
   unfolding countBelow leastTo mostTo
-  tells-none = record { entries = refl; wrong = refl; least = refl; most = refl; few = omega arith; alone = tt }
+  tells-none = record { entries = refl; wrong = refl; least = refl; most = refl; few = omega arith; alone = refl }
 
   pub tells-few : (s : ℕ) (t : Tally) → s < 14 → TellsTo L s t → Few t
   tells-few s t b h = record {
@@ -176,7 +176,6 @@ tells-whole l s t h e = let w : TellsTo (leafIn l) 14 t = subst
         wrong = w .wrong;
         least = w .least;
         most = w .most;
-        alone = λ z. hits-none (leafIn l) 14 (subst (Hits (leafIn l) 14) z (w .alone));
       },
       w .alone,
     )
@@ -226,6 +225,9 @@ pub left-next : (L : Leaf) (n h : ℕ) → Left L (suc n) h → twinAt L n ≡ f
 unfolding anyBelow
 left-next L n h k e = record { told = k .told .1; rest = sym (rw e (or-none (anyBelow (twinAt L) n))) ∙ k .rest }
 
-pub left-none : (L : Leaf) (n h : ℕ) → n ≡ 0 → Left L n h → false ≡ twins L
-unfolding anyBelow
-left-none L n h z k = let r : anyBelow (twinAt L) 0 ≡ twins L = rw z at (k .rest) in r
+pub left-some : (L : Leaf) (n h : ℕ) → Left L n h → (h ≡ 0 → ⊥) → 0 < n
+left-some L zero h k ne = absurd (ne (k .told))
+left-some L (suc n) h k ne = omega arith
+
+pub left-none : (L : Leaf) (n h : ℕ) → h ≡ 0 → Left L n h → false ≡ twins L
+left-none L n h z k = sym (hits-none L n (subst (Hits L n) z (k .told))) ∙ k .rest

@@ -175,14 +175,14 @@ fn is_hit_twin(leaf: &[u8], head: Header, s: usize, hits: u64) -> bool
     is_twin(leaf, head, s)
 }
 
-// Whether two keys of the leaf are equal: only slots that were hit are compared with the lower ones.
+// Whether two keys of the leaf are equal: only slots that were hit are compared with the lower ones, until no hit is left.
 pub fn has_twins(leaf: &[u8], head: Header, hits: u64) -> bool
     requires { ⌜ (256 ≤ length (now leaf)) × (bitsOf head ≡ headAt (now leaf) 0) × Hits (leafIn (now leaf)) 14 hits ⌝ }
     ensures { λ r. ⌜ r ≡ twins (leafIn (now (leaf .entry))) ⌝ }
 {
     let mut left = hits;
     let mut s = Leaf::SLOTS;
-    while 0 < s {
+    while left != 0 {
         s -= 1;
         if is_hit_twin(leaf, head, s, left) {
             return true;

@@ -9,7 +9,7 @@ use leaf::tally::Tally;
 use leaf::tally::has_twins;
 use leaf::tally::tally_of;
 ghost use mathlib.Core.Path.{_≡_};
-ghost use mathlib.Core.Bool.{false, not, cond};
+ghost use mathlib.Core.Bool.{not, cond};
 ghost use mathlib.Core.List.{List};
 ghost use Prim.Native.Nat.{ℕ, _+_, _*_, _/_, _≤_, _<_};
 ghost use lib.Dec.{eqb};
@@ -122,22 +122,10 @@ fn is_low(entries: u64, low: u64) -> bool
     and(entries != 0, low != 0)
 }
 
-// Whether two keys are equal, where no hit says that none are.
-fn is_twinned(leaf: &[u8], head: Header, hits: u64) -> bool
-    requires { ⌜ (256 ≤ length (now leaf)) × (bitsOf head ≡ headAt (now leaf) 0) × (hits ≡ 0 → twins (leafIn (now leaf)) ≡ false)
-        × Hits (leafIn (now leaf)) 14 hits ⌝ }
-    ensures { λ r. ⌜ r ≡ twins (leafIn (now (leaf .entry))) ⌝ }
-{
-    if hits == 0 {
-        return false;
-    }
-    has_twins(leaf, head, hits)
-}
-
 // The first of the faults of a leaf whose active sibling and tally are told, in the order in which they are told, or 0.
 fn fault_of(leaf: &[u8], head: Header, n: u64, met: &[u64], w: Progress, next: u64, t: Tally) -> u64
     requires { ⌜ (256 ≤ length (now leaf)) × (n ≤ 256) × (length (now met) ≡ 4) × (bitsOf head ≡ headAt (now leaf) 0)
-        × (t .hits ≡ 0 → twins (leafIn (now leaf)) ≡ false) × Hits (leafIn (now leaf)) 14 (t .hits) ⌝ }
+        × Hits (leafIn (now leaf)) 14 (t .hits) ⌝ }
     ensures { λ r. ⌜ r
         ≡ faultBy n next (bitsOf head) (twins (leafIn (now (leaf .entry)))) t (reachedBy t (w .last)) (stateIn w (now (met .entry))) ⌝ }
 {
@@ -156,7 +144,7 @@ fn fault_of(leaf: &[u8], head: Header, n: u64, met: &[u64], w: Progress, next: u
     if t.wrong != 0 {
         return 35;
     }
-    if is_twinned(leaf, head, t.hits) {
+    if has_twins(leaf, head, t.hits) {
         return 36;
     }
     if is_low(w.entries, reaches(t, w.last)) {

@@ -71,7 +71,7 @@ returns-6 c =
       sym (l .locked .ensures) ∙ b .before .if3 .left,
       sym (b .is-bare .ensures) ∙ e .if4 .left,
       eq-eqb (a .t .wrong) 0 (t .before .if5 .left),
-      sym (t .is-twinned .ensures) ∙ c .if6 .taken,
+      sym (t .has-twins .ensures) ∙ c .if6 .taken,
     )
 
 returns-7 : tie.Need-returns-7
@@ -90,7 +90,7 @@ returns-7 c =
       sym (l .locked .ensures) ∙ b .before .if3 .left,
       sym (b .is-bare .ensures) ∙ e .if4 .left,
       eq-eqb (a .t .wrong) 0 (t .before .if5 .left),
-      sym (t .is-twinned .ensures) ∙ x .before .if6 .left,
+      sym (t .has-twins .ensures) ∙ x .before .if6 .left,
       sym (y .is-low .ensures ∙ ap (λ (z : ℕ). both (not (eqb (a .w .entries) 0)) (not (eqb z 0))) (x .reaches .ensures)) ∙ c .if7 .taken,
     )
 
@@ -110,7 +110,7 @@ returns-8 c =
       sym (l .locked .ensures) ∙ b .before .if3 .left,
       sym (b .is-bare .ensures) ∙ e .if4 .left,
       eq-eqb (a .t .wrong) 0 (t .before .if5 .left),
-      sym (t .is-twinned .ensures) ∙ x .before .if6 .left,
+      sym (t .has-twins .ensures) ∙ x .before .if6 .left,
       sym (y .is-low .ensures ∙ ap (λ (z : ℕ). both (not (eqb (a .w .entries) 0)) (not (eqb z 0))) (x .reaches .ensures)) ∙ c .if7 .left,
     )
 
