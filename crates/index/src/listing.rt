@@ -26,7 +26,7 @@ pub enum Listed {
 // The entries of the first `count` slots of an order, put behind those that the buffers hold already, while there is room.
 fn list_slots(
     leaf: &[u8],
-    order: &[u64],
+    order: &[u8],
     count: usize,
     keys: &mut [u64],
     values: &mut [u64],
@@ -67,7 +67,7 @@ fn list_leaf(
     ensures { λ r. ⌜ buffers r (now (keys .exit)) (now (values .exit))
         ≡ fill room (entriesFrom (leafIn (now (leaf .entry))) from) (buffers used (now (keys .entry)) (now (values .entry))) ⌝ }
 {
-    let mut order = [0u64; 14];
+    let mut order = [0u8; 14];
     let count = order_from(leaf, from, &mut order);
     list_slots(leaf, &order, count, keys, values, room, used)
 }

@@ -29,7 +29,7 @@ pub fn write_full_put(
     ensures { λ r. ⌜ FullPut (bitsOf head) (leafIn (now (leaf .entry))) block new key value
         (now (list .entry)) (now (list .exit)) r ⌝ }
 {
-    let mut order = [0u64; 14];
+    let mut order = [0u8; 14];
     order_from(leaf, 0, &mut order);
     let moved = &order[7..14];
     let up = key_at(leaf, moved[0] as usize) < key;

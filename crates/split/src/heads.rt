@@ -10,7 +10,7 @@ ghost use Rattle.leaf.specs.Leaf.{leafIn};
 ghost use Rattle.lists.specs.FullLists.{markedFrom, newHeader};
 
 // The moved entries in slots 7 to 13.
-fn upper_head(leaf: &[u8], moved: &[u64]) -> Header
+fn upper_head(leaf: &[u8], moved: &[u8]) -> Header
     requires { ⌜ (256 ≤ length (now leaf)) × (length (now moved) ≡ 7) × ((i : ℕ) → getD (now moved) i 0 < 14) ⌝ }
     ensures { λ r. ⌜ bitsOf r ≡ markedFrom (leafIn (now (leaf .entry))) 0 7 (now (moved .entry)) ⌝ }
 {
@@ -24,7 +24,7 @@ fn upper_head(leaf: &[u8], moved: &[u64]) -> Header
 }
 
 // The new leaf's header, with the new entry in slot 6 where it goes there.
-pub fn new_head(leaf: &[u8], moved: &[u64], up: bool, key: u64) -> Header
+pub fn new_head(leaf: &[u8], moved: &[u8], up: bool, key: u64) -> Header
     requires { ⌜ (256 ≤ length (now leaf)) × (length (now moved) ≡ 7) × ((i : ℕ) → getD (now moved) i 0 < 14) ⌝ }
     ensures { λ r. ⌜ bitsOf r ≡ newHeader up (leafIn (now (leaf .entry))) (now (moved .entry)) key ⌝ }
 {
@@ -36,7 +36,7 @@ pub fn new_head(leaf: &[u8], moved: &[u64], up: bool, key: u64) -> Header
 }
 
 // The old leaf's header when it is switched: "moved bits cleared and alt flipped".
-pub fn old_head(head: Header, moved: &[u64]) -> Header
+pub fn old_head(head: Header, moved: &[u8]) -> Header
     requires { ⌜ (length (now moved) ≡ 7) × ((i : ℕ) → getD (now moved) i 0 < 14) ⌝ }
     ensures { λ r. ⌜ bitsOf r ≡ flipped (clearedAll (bitsOf head) (now (moved .entry))) ⌝ }
 {

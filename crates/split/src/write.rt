@@ -46,7 +46,7 @@ fn append_zeros(list: &mut [u64], at: usize, place: u64)
 }
 
 // The moved entries.
-fn append_moved(list: &mut [u64], at: usize, place: u64, leaf: &[u8], moved: &[u64])
+fn append_moved(list: &mut [u64], at: usize, place: u64, leaf: &[u8], moved: &[u8])
     requires { ⌜ (2 * at + 28 ≤ length (now list)) × (place < 8178) × (256 ≤ length (now leaf)) × (length (now moved) ≡ 7)
         × ((i : ℕ) → getD (now moved) i 0 < 14) ⌝ }
     ensures { λ _. ⌜ now (list .exit)
@@ -91,7 +91,7 @@ fn write_new_leaf(
     list: &mut [u64],
     head: Header,
     leaf: &[u8],
-    moved: &[u64],
+    moved: &[u8],
     new: u64,
     up: bool,
     key: u64,
@@ -145,7 +145,7 @@ pub fn write_split(
     head: Header,
     left: Header,
     leaf: &[u8],
-    moved: &[u64],
+    moved: &[u8],
     block: u64,
     new: u64,
     up: bool,

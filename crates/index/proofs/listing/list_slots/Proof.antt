@@ -33,6 +33,13 @@ returns c =
     (k .loop .values) _
     (k .loop .inv .3) (c .if1 .taken)
 
+cast-s : tie.Need-cast-s Inv-loop μ-loop
+cast-s c =
+    let k = c .before .before .before in
+    let st = k .before .before .before .before .before in
+    let a = st .args in
+    record { fits = omega (arith, getD-take (a .count) (now (a .order)) (k .loop .i) 0 (omega arith), st .pre .5 (k .loop .i)) }
+
 key-at-requires : tie.Need-key-at-requires Inv-loop μ-loop
 key-at-requires c κs =
     let k = c .before .before .before in
@@ -78,6 +85,6 @@ returns-2 c =
 pub list-slots-spec : {M : Type 1} → statement M
 list-slots-spec =
     tie.close
-    (tie.spec Inv-loop μ-loop loop-holds (λ c. search needs) (λ c. search needs) returns (λ c. search needs) (λ c. search needs)
+    (tie.spec Inv-loop μ-loop loop-holds (λ c. search needs) (λ c. search needs) returns (λ c. search needs) cast-s
     key-at-requires (λ c. search needs) (λ c. search needs) value-at-requires (λ c. search needs) (λ c. search needs)
     (λ c. search needs) (λ c. search needs) (λ c. search needs) loop-again (λ c. search needs) (λ c. search needs) returns-2)

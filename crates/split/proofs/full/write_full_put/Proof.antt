@@ -67,6 +67,9 @@ write-full-put-spec =
     tie.close
     (tie.spec
     (λ c. search needs) (λ c κs. search needs) (λ c. search needs) (λ c. search needs) (λ c. search needs) (λ c. search needs)
+    (λ c. let o = c .before .before .before .before in let s = o .before .before .before .before in
+    let m = the-moved (s .args .leaf .now) (s .pre .5) (s .pre .6) _ _ (o .order-from .ensures) in
+    record { fits = omega (arith, m .below 0) })
     (λ c κs. let o = c .before .before .before .before in let s = o .before .before .before .before in
     let m = the-moved (s .args .leaf .now) (s .pre .5) (s .pre .6) _ _ (o .order-from .ensures) in
     (omega arith, m .below 0))

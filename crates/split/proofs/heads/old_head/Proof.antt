@@ -34,7 +34,8 @@ pub old-head-spec : {M : Type 1} → statement M
 old-head-spec =
     tie.close
     (tie.spec
-    Inv-loop μ-loop (λ c. (omega arith, refl)) (λ c. omega arith) (λ c. omega arith)
+    Inv-loop μ-loop (λ c. (omega arith, refl)) (λ c. omega arith)
+    (λ c. let b = c .before .before in record { fits = omega (arith, b .before .before .pre .1 (b .loop .i)) })
     (λ c κs. let b = c .before .before in b .before .before .pre .1 (b .loop .i)) (λ c. omega arith)
     (λ c. omega arith) loop-again
     (λ c κs. search needs) returns)

@@ -41,6 +41,7 @@ pub upper-head-spec : {M : Type 1} → statement M
 upper-head-spec =
     tie.close
     (tie.spec
-    Inv-loop μ-loop (λ c. (omega arith, refl)) (λ c. omega arith) (λ c. omega arith) (λ c. omega arith)
+    Inv-loop μ-loop (λ c. (omega arith, refl)) (λ c. omega arith) (λ c. omega arith)
+    (λ c. let b = c .before .before in record { fits = omega (arith, b .before .before .before .pre .2 (b .loop .i)) })
     (λ c κs. let b = c .before .before in (omega arith, b .before .before .before .pre .2 (b .loop .i)))
     (λ c κs. omega arith) (λ c. omega arith) (λ c. omega arith) loop-again returns)

@@ -40,7 +40,9 @@ append-moved-spec =
     Inv-loop μ-loop
     (λ c. let a = c .before .before .before .args in
     (omega arith, refl, entries-start (a .list .now) (a .at) (a .place) (leafIn (a .leaf .now)) (a .moved .now)))
-    (λ c. omega arith) (λ c. omega arith) (λ c. omega arith) (λ c. omega arith) (λ c. omega arith) (λ c. omega arith)
+    (λ c. omega arith)
+    (λ c. let b = c .before .before in record { fits = omega (arith, b .before .before .before .before .pre .4 (b .loop .i)) })
+    (λ c. omega arith) (λ c. omega arith) (λ c. omega arith) (λ c. omega arith)
     (λ c κs. let b = c .before .before .before in (omega arith, b .before .before .before .before .pre .4 (b .loop .i)))
     (λ c κs. let b = c .before .before .before .before in
     (omega arith, b .before .before .before .before .pre .4 (b .loop .i)))
