@@ -1,5 +1,6 @@
 -- A header is held as two words: a field of the whole is a field of one of the two, and the methods, which work on one word at a
 -- time, compute what `Header` says.
+use mathlib.Core.Bool.{true, false}
 use mathlib.Core.List.{List}
 use mathlib.Core.Path.{_≡_, sym, ap, _∙_}
 use Prim.Native.Nat.{ℕ, suc, _+_, _-_, _*_, _/_, _%_, _^_, _≤_, _<_}
@@ -16,6 +17,7 @@ use Rattle.header.specs.Fields.{field, patched}
 use Rattle.header.specs.FieldLaws.{field-lt, field-le, field-of-low, patched-code, patched-lt}
 use Rattle.header.specs.Header.{whole, isOccupied, isLocked, altIn, fingerprintIn, marked, cleared, flipped}
 use Rattle.header.specs.Header.{xorOfBytes, fingerprintOf}
+use Rattle.header.specs.Lowest.{LowestOne}
 use Rattle.header.specs.Xor.{xor-assoc}
 
 -- ---- fields of the whole
@@ -57,6 +59,12 @@ module _ (l h : ℕ) (small : l < 2 ^ 64) where
   pub flipped-low : whole (patched l 15 1 (1 - field l 15 1)) h ≡ flipped (whole l h)
   unfolding flipped
   flipped-low = rw (← alt-low) (sym (patched-low l h 15 1 small (lit≤ tt) (1 - field l 15 1)))
+
+-- slot s is the lowest that is occupied; 14 where none is
+pub record FirstTaken (n s : ℕ) : Type 0 where
+  pub most : s ≤ 14
+  pub below : (t : ℕ) → t < s → isOccupied n t ≡ false
+  pub at : s < 14 → isOccupied n s ≡ true
 
 module _ (l h s : ℕ) (small : l < 2 ^ 64) (slot : s < 14) where
   pub occupied-low : eqb (field l s 1) 1 ≡ isOccupied (whole l h) s
@@ -118,3 +126,22 @@ mix-byte l p i mix b h lt e =
 pub mix-end : (mix rest i : ℕ) → 8 ≤ i → bitXor mix (xorOfBytes (8 - i) rest) ≡ mix
 unfolding xorOfBytes
 mix-end mix rest i h = let e : 8 - i ≡ 0 = omega arith in rw e (xor-zero-r mix)
+
+-- by the lowest bit of word 0 that is 1
+module _ (l h s : ℕ) (small : l < 2 ^ 64) (one : LowestOne l 64 s) where
+  bit-below : (t : ℕ) → t < 14 → t < s → isOccupied (whole l h) t ≡ false
+  bit-below t b c = sym (occupied-low l h t small b) ∙ ap (λ (x : ℕ). eqb x 1) (one .below t c)
+
+  pub first-taken : s < 14 → FirstTaken (whole l h) s
+  first-taken b = record {
+    most = omega arith;
+    below = λ t c. bit-below t (omega arith) c;
+    at = λ c. sym (occupied-low l h s small b) ∙ ap (λ (x : ℕ). eqb x 1) (one .at (omega arith));
+  }
+
+  pub none-taken : 14 ≤ s → FirstTaken (whole l h) 14
+  none-taken b = record {
+    most = omega arith;
+    below = λ t c. bit-below t c (omega arith);
+    at = λ c. absurd (omega arith);
+  }

@@ -1,9 +1,9 @@
-// A run of bits of a word, read and replaced, and the lowest bit that is 0.
+// A run of bits of a word, read and replaced, and the lowest bit that is 1 or 0.
 use words::LARGEST;
 ghost use mathlib.Core.Path.{_≡_};
 ghost use Prim.Native.Nat.{_+_, _≤_, _<_, _^_};
 ghost use Rattle.header.specs.Fields.{field, patched};
-ghost use Rattle.header.specs.Zeros.{LowestZero};
+ghost use Rattle.header.specs.Lowest.{LowestOne, LowestZero};
 
 // The w bits of n from bit p on.
 pub fn get(n: u64, p: usize, w: usize) -> u64
@@ -20,6 +20,13 @@ pub fn replace(n: u64, p: usize, w: usize, d: u64) -> u64
 {
     let old = get(n, p, w) << p;
     n - old + (d << p)
+}
+
+// The lowest bit of n that is 1; 64 where none is.
+pub fn lowest_one(n: u64) -> usize
+    ensures { λ r. ⌜ LowestOne n 64 r ⌝ }
+{
+    u64::trailing_zeros(n) as usize
 }
 
 // The lowest bit of n that is 0; 64 where none is.

@@ -3,6 +3,7 @@
 pub mod bits;
 
 use crate::bits::get;
+use crate::bits::lowest_one;
 use crate::bits::replace;
 ghost use mathlib.Core.Path.{_≡_};
 ghost use Prim.Native.Nat.{_+_, _≤_, _<_};
@@ -10,6 +11,7 @@ ghost use lib.ListN.{length};
 ghost use Rattle.words.specs.Words.{wordAt};
 ghost use Rattle.header.specs.Header.{headAt, bitsOf, isOccupied, fingerprintIn, isLocked, altIn};
 ghost use Rattle.header.specs.Header.{marked, cleared, flipped, fingerprintOf};
+ghost use Rattle.header.specs.HeaderCode.{FirstTaken};
 
 pub struct Header {
     pub low: u64,
@@ -32,6 +34,14 @@ impl Header {
         ensures { λ r. ⌜ r ≡ isOccupied (bitsOf self) s ⌝ }
     {
         get(self.low, s, 1) == 1
+    }
+
+    // The lowest occupied slot; 14 where none is.
+    pub fn first_taken(self) -> usize
+        ensures { λ r. ⌜ FirstTaken (bitsOf self) r ⌝ }
+    {
+        let s = lowest_one(self.low);
+        if s < 14 { s } else { 14 }
     }
 
     pub fn fingerprint(self, s: usize) -> u8

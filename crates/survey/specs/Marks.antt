@@ -15,7 +15,7 @@ use Rattle.header.specs.Fields.{field, patched}
 use Rattle.header.specs.FieldLaws.{field-patched, field-apart}
 use Rattle.header.specs.Header.{whole}
 use Rattle.header.specs.HeaderCode.{field-low, field-high, patched-low, patched-high}
-use Rattle.header.specs.Zeros.{LowestZero}
+use Rattle.header.specs.Lowest.{LowestZero}
 use Rattle.leaf.specs.Search.{lowest}
 use Rattle.leaf.specs.SearchLaws.{lowest-is, lowest-not}
 use Rattle.leaf.specs.declared.search.Slot.the-variants.{At, Missing}
