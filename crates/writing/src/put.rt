@@ -25,7 +25,7 @@ ghost use Rattle.image.specs.Image.{blocks, leaves};
 ghost use mathlib.Core.Bool.{true, not};
 ghost use Rattle.leaf.specs.Leaf.{Right, occIn};
 ghost use Rattle.leaf.specs.Search.{count, lowest, lowestVacant, slotOf};
-ghost use Rattle.leaf.specs.declared.search.Slot.the-variants.{At, Missing};
+ghost use Rattle.leaf.specs.declared.search.Slot.the-variants.{Missing};
 ghost use Rattle.survey.specs.Marks.{blocksIn, isIn};
 ghost use Rattle.lists.specs.Lists.{headIn, putAt};
 ghost use Rattle.lists.specs.FullLists.{fullPut};

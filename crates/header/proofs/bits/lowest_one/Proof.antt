@@ -1,4 +1,3 @@
-use borrow.Author.Needs.{needs}
 use native.Mathlib.Omega.{arith}
 use Rattle.header.specs.Lowest.{lowest-one}
 use Rattle.header.proofs.bits.lowest_one.Statement.{statement}
