@@ -31,17 +31,20 @@ fn results_of_the_binding() {
     assert_eq!(board::find(&image[..255], 10), Err(Refusal::ImageLength));
 }
 
-/// Compiles a C file against the header and the library, with warnings as errors, and runs it.
+/// Compiles a C file against the header and the library, with warnings as errors, and runs it. The program is this process's own:
+/// runs with other seeds may go on beside it.
 fn compile_and_run(source: &str, program: &str) -> Output {
     let package = Path::new(env!("CARGO_MANIFEST_DIR"));
     let library = std::env::var_os("STRINGHUT_LIBRARY_DIR").map_or(package.join("../target/staticlib"), PathBuf::from);
-    let program = Path::new(env!("CARGO_TARGET_TMPDIR")).join(program);
+    let program = Path::new(env!("CARGO_TARGET_TMPDIR")).join(format!("{program}-{}", std::process::id()));
     let mut compiler = Command::new("cc");
     compiler.args(["-std=c11", "-Wall", "-Wextra", "-Werror", "-I"]).arg(package.join("../include"));
     compiler.arg(package.join(source)).arg(library.join("libboard.a")).arg("-o").arg(&program);
     let compiled = compiler.output().expect("a C compiler");
     assert!(compiled.status.success(), "{}", String::from_utf8_lossy(&compiled.stderr));
-    Command::new(program).output().expect("the program starts")
+    let output = Command::new(&program).output().expect("the program starts");
+    std::fs::remove_file(program).expect("the program is there");
+    output
 }
 
 #[test]
