@@ -3,7 +3,9 @@ use mathlib.Core.Path.{_≡_, refl, sym, _∙_}
 use mathlib.Core.Bool.{false}
 use mathlib.Core.List.{List, [], _∷_, _++_}
 use mathlib.Core.Logic.{_⊎_, inl, inr, _≢_}
-use Prim.Native.Nat.{ℕ, _<_}
+use Prim.Native.Nat.{ℕ, zero, suc, _<_}
+use native.Mathlib.Omega.{arith}
+use lib.ListN.{length, getD}
 use Rattle.leaf.specs.Leaf.{Leaf, In, Right}
 use Rattle.image.specs.Map.{SameMap}
 use Rattle.image.specs.Chain.{All, Links, Starts, Distinct, Has, Rising, Prints, Differ, Filled, Sound}
@@ -19,6 +21,15 @@ module _ (P : ℕ → Type 0) where
   pub all-join : (xs ys : List ℕ) → All P xs → All P ys → All P (xs ++ ys)
   all-join [] ys a b = b
   all-join (x ∷ xs) ys a b = (a .0, all-join xs ys (a .1) b)
+
+  -- of each element, by its place
+  pub all-of : (xs : List ℕ) → ((i : ℕ) → i < length xs → P (getD xs i 0)) → All P xs
+  all-of [] h = tt
+  all-of (x ∷ xs) h = (h 0 (omega arith), all-of xs (λ i b. h (suc i) (omega arith)))
+
+  pub of-all : (xs : List ℕ) → All P xs → (i : ℕ) → i < length xs → P (getD xs i 0)
+  of-all (x ∷ xs) a zero b = a .0
+  of-all (x ∷ xs) a (suc i) b = of-all xs (a .1) i (omega arith)
 
 pub all-zip : (P Q R : ℕ → Type 0) → ((b : ℕ) → P b → Q b → R b) → (bs : List ℕ) → All P bs → All Q bs → All R bs
 all-zip P Q R f [] p q = tt
