@@ -1,8 +1,8 @@
 // The calls that write a list of steps.
-use change::del;
-use change::set;
 use told::making::HutMade;
 use told::making::told_made;
+use writing::change::del;
+use writing::change::set;
 use writing::put::put;
 ghost use mathlib.Core.Path.{_≡_};
 ghost use Rattle.writing.specs.Writing.{putOf, setOf, delOf};

@@ -1,7 +1,7 @@
 // The calls that take steps.
+use machine::cut;
 use machine::ran_as;
-use running::cut;
-use running::run;
+use machine::run;
 ghost use mathlib.Core.Path.{_≡_};
 ghost use Rattle.machine.specs.Taking.{runOf, cutOf};
 

@@ -1,6 +1,4 @@
 // The calls of `index`, `writing` and `machine`.
-use change::del;
-use change::set;
 use index::find::Found;
 use index::find::find;
 use index::listing::Listed;
@@ -8,9 +6,11 @@ use index::listing::listing;
 use index::recovery::Recovered;
 use index::recovery::recovery;
 use machine::Ran;
-use running::cut;
-use running::run;
+use machine::cut;
+use machine::run;
 use writing::Made;
+use writing::change::del;
+use writing::change::set;
 use writing::put::put;
 ghost use Rattle.demands.specs.Calls.{Allowed};
 ghost use Rattle.demands.specs.Calls as asked;

@@ -31,13 +31,13 @@ fn show(case: u64, ran: Ran, image: &[u8; 256]) {
 fn cut(case: u64, list: &[u64], n: usize, line0: u64, line1: u64) {
     let mut image = [0u8; 256];
     let arrivals = [line0, line1, 0, 0];
-    let ran = running::cut(&mut image, list, n, &arrivals);
+    let ran = machine::cut(&mut image, list, n, &arrivals);
     show(case, ran, &image);
 }
 
 fn run(case: u64, list: &[u64], n: usize) {
     let mut image = [0u8; 256];
-    let ran = running::run(&mut image, list, n);
+    let ran = machine::run(&mut image, list, n);
     show(case, ran, &image);
 }
 
@@ -65,7 +65,7 @@ fn in_order() {
 fn arrived(case: u64, arrivals: &[u64]) {
     let mut image = [0u8; 256];
     let list = [0, 1];
-    let ran = running::cut(&mut image, &list, 1, arrivals);
+    let ran = machine::cut(&mut image, &list, 1, arrivals);
     show(case, ran, &image);
 }
 
@@ -117,7 +117,7 @@ fn behind() {
 fn sized(case: u64, image: &mut [u8], size: usize, n: usize) {
     let list = [0u64; 114];
     if size <= image.len() {
-        answer(case, running::run(&mut image[0..size], &list, n));
+        answer(case, machine::run(&mut image[0..size], &list, n));
         io::write_all(STDOUT_FILENO, b"\n");
     }
 }

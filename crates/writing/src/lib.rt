@@ -1,5 +1,6 @@
-// The calls that make lists of steps: what they answer, and put. Set and del stand in `change`.
-pub mod block;
+// The calls that make lists of steps.
+mod block;
+pub mod change;
 pub mod put;
 
 use steps::LineWrites;

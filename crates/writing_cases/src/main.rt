@@ -42,22 +42,22 @@ fn tell_made(made: Made) -> u64 {
 fn put(image: &mut [u8], key: u64) {
     let mut list = [0u64; LIST_ROOM];
     let n = tell_made(writing::put::put(image, &mut list, key, 7));
-    running::run(image, &list, n as usize);
+    machine::run(image, &list, n as usize);
     end_line();
 }
 
 fn set(image: &mut [u8], key: u64, value: u64) {
     let mut list = [0u64; LIST_ROOM];
-    let n = tell_made(change::set(image, &mut list, key, value));
-    running::run(image, &list, n as usize);
+    let n = tell_made(writing::change::set(image, &mut list, key, value));
+    machine::run(image, &list, n as usize);
     end_line();
 }
 
 // The first step is told too: the place of its store and the word stored.
 fn del(image: &mut [u8], key: u64) {
     let mut list = [0u64; LIST_ROOM];
-    let n = tell_made(change::del(image, &mut list, key));
-    running::run(image, &list, n as usize);
+    let n = tell_made(writing::change::del(image, &mut list, key));
+    machine::run(image, &list, n as usize);
     tell(list[0]);
     tell(list[1]);
     end_line();

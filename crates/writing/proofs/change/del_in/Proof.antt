@@ -5,10 +5,10 @@ use denote.Ref.{now}
 use Rattle.words.specs.Words.{reads}
 use Rattle.leaf.specs.declared.search.Slot.{Slot}
 use Rattle.lists.specs.Lists.{delList}
 use Rattle.writing.specs.Writing.{madeAs}
 use Rattle.writing.specs.ChangeLaws.{bySlot, del-told}
-use Rattle.change.proofs.del_in.Statement.{statement}
-use Rattle.change.proofs.del_in.Tie as tie
+use Rattle.writing.proofs.change.del_in.Statement.{statement}
+use Rattle.writing.proofs.change.del_in.Tie as tie
 
 write-del-requires : tie.Need-write-del-requires
 write-del-requires c κs =

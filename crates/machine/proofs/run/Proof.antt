@@ -1,10 +1,10 @@
--- `running::run` meets its contract: each return rewrites with the refusals' tests.
+-- `machine::run` meets its contract: each return rewrites with the refusals' tests.
 use borrow.Author.Needs.{needs}
 use mathlib.Core.Path.{refl, sym, _∙_}
 use lib.ListN.{length}
 use Rattle.machine.specs.Fits.{passed, all-fit}
-use Rattle.running.proofs.run.Statement.{statement}
-use Rattle.running.proofs.run.Tie as tie
+use Rattle.machine.proofs.run.Statement.{statement}
+use Rattle.machine.proofs.run.Tie as tie
 
 run-steps-requires : tie.Need-run-steps-requires
 run-steps-requires c κs =

@@ -4,10 +4,10 @@ use mathlib.Core.Path.{sym, ap, ap₂, _∙_}
 use denote.Ref.{now}
 use Rattle.leaf.specs.declared.search.Slot.{Slot}
 use Rattle.lists.specs.Lists.{setList}
 use Rattle.writing.specs.Writing.{madeAs}
 use Rattle.writing.specs.ChangeLaws.{bySlot, set-told}
-use Rattle.change.proofs.set_in.Statement.{statement}
-use Rattle.change.proofs.set_in.Tie as tie
+use Rattle.writing.proofs.change.set_in.Statement.{statement}
+use Rattle.writing.proofs.change.set_in.Tie as tie
 
 write-set-requires : tie.Need-write-set-requires
 write-set-requires c κs =

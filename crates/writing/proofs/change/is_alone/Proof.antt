@@ -1,6 +1,6 @@
 use borrow.Author.Tests.{eq-eqb, ne-eqb}
-use Rattle.change.proofs.is_alone.Statement.{statement}
-use Rattle.change.proofs.is_alone.Tie as tie
+use Rattle.writing.proofs.change.is_alone.Statement.{statement}
+use Rattle.writing.proofs.change.is_alone.Tie as tie
 
 pub is-alone-spec : {M : Type 1} → statement M
 is-alone-spec =

@@ -8,9 +8,9 @@ use Rattle.words.specs.Below.{countBelow}
 use Rattle.leaf.specs.Leaf.{occIn}
 use Rattle.steps.specs.declared.Step.{Step}
 use Rattle.steps.specs.Encoding.{written}
 use Rattle.writing.specs.ChangeLaws.{alone-unlink, others-clear}
-use Rattle.change.proofs.write_del.Statement.{statement}
-use Rattle.change.proofs.write_del.Tie as tie
+use Rattle.writing.proofs.change.write_del.Statement.{statement}
+use Rattle.writing.proofs.change.write_del.Tie as tie
 
 returns : tie.Need-returns
 returns c =

@@ -1,10 +1,10 @@
--- `running::cut` meets its contract: each return rewrites with the refusals' tests.
+-- `machine::cut` meets its contract: each return rewrites with the refusals' tests.
 use borrow.Author.Needs.{needs}
 use mathlib.Core.Path.{refl, sym, _∙_}
 use lib.ListN.{length}
 use Rattle.machine.specs.Fits.{passed, all-fit, can-be-taken}
-use Rattle.running.proofs.cut.Statement.{statement}
-use Rattle.running.proofs.cut.Tie as tie
+use Rattle.machine.proofs.cut.Statement.{statement}
+use Rattle.machine.proofs.cut.Tie as tie
 
 bad-arrivals-requires : tie.Need-bad-arrivals-requires
 bad-arrivals-requires c κs =

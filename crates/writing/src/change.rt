@@ -1,4 +1,7 @@
 // Set and del: a change at a key that is there. Each makes three steps.
+use crate::Made;
+use crate::block::head_in;
+use crate::block::slot_in;
 use emit::short::write_clear;
 use emit::short::write_set;
 use emit::short::write_unlink;
@@ -10,9 +13,6 @@ use steps::LineWrites;
 use steps::WordWrites;
 use survey::along::next_block;
 use survey::walk::survey;
-use writing::Made;
-use writing::block::head_in;
-use writing::block::slot_in;
 ghost use mathlib.Core.Path.{_≡_};
 ghost use Prim.Native.Nat.{_+_, _*_, _≤_, _<_};
 ghost use lib.Dec.{eqb};
