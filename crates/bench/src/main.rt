@@ -1,5 +1,7 @@
 // The bench program: commands from standard input, done on a blank image of 4 blocks. What decides anything is in the crates `command`
 // and `perform`; here is only reading and writing.
+#![tactic(auto)]
+
 use command::Next;
 use libc::{STDIN_FILENO, STDOUT_FILENO};
 use perform::ROOM;

@@ -1,1 +1,1 @@
-pub mod ToldBeside
+pub mod Beside

@@ -1,6 +1,8 @@
 // The calls that read an image.
-ghost use Rattle.promises.specs.Calls as asked;
-ghost use Rattle.promises.specs.Outside.{Outside};
+ghost use Rattle.std.specs.Prelude.{◌≡◌};
+ghost use Rattle.index.specs.Reading.{told, find_of};
+ghost use Rattle.index.specs.Reading.{counted, listing_is, listing_of};
+ghost use Rattle.index.specs.Reading.{sizes, recovery_is, recovery_of};
 
 use index::find::find;
 use index::listing::listing;
@@ -9,7 +11,7 @@ use told::reading::{HutFound, HutListed, HutRecovered, told_found, told_listed, 
 
 #[unsafe(no_mangle)]
 pub extern "C" fn hut_find(image: &[u8], key: u64) -> HutFound
-    ensures { Outside (asked.find image.now key) result }
+    ensures { told result.answer result.value ≡ find_of image.now key }
 {
     told_found(find(image, key))
 }
@@ -21,8 +23,8 @@ pub extern "C" fn hut_listing(
     keys: &mut [u64],
     values: &mut [u64],
 ) -> HutListed
-    ensures { Outside (asked.listing image.now from keys.old values.old)
-        (result, keys.new, values.new) }
+    ensures { listing_is (counted result.answer result.count) keys.new values.new
+        ≡ listing_of image.now from keys.old values.old }
 {
     told_listed(listing(image, from, keys, values))
 }
@@ -33,8 +35,8 @@ pub extern "C" fn hut_recovery(
     smallest: &mut [u64],
     blocks: &mut [u64],
 ) -> HutRecovered
-    ensures { Outside (asked.recovery image.now smallest.old blocks.old)
-        (result, smallest.new, blocks.new) }
+    ensures { recovery_is (sizes result.answer result.leaves result.entries) smallest.new blocks.new
+        ≡ recovery_of image.now smallest.old blocks.old }
 {
     told_recovered(recovery(image, smallest, blocks))
 }

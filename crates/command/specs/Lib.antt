@@ -1,4 +1,6 @@
--- The spelling of a command, and a line read as one.
+-- To believe: Spelling. Reading has the shape of the code; Exact and Lines say what Reading means.
 pub mod Spelling
-pub mod LineReading
-pub mod proved
+pub mod Reading
+pub mod ReadingLaws
+pub mod Exact
+pub mod Lines

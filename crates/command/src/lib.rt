@@ -1,9 +1,11 @@
 // The bench program's lines, and the commands read from them.
+#![tactic(auto)]
+
 mod reader;
 
 ghost use Rattle.std.specs.Prelude.{◌≡◌, ◌+◌, drop};
-ghost use Rattle.command.specs.proved.LineParts.{until, begins, field_at, rest_at, numbers_at, as_put, as_set, as_del, as_get};
-ghost use Rattle.command.specs.LineReading.{parse_of, line_at};
+ghost use Rattle.command.specs.Reading.{until, begins, field_at, rest_at, pair_at};
+ghost use Rattle.command.specs.Reading.{as_put, as_set, as_del, as_get, parse_of, line_at};
 
 use number::{Number, spelled_by};
 use reader::read_field;
@@ -92,7 +94,7 @@ fn rest_at(line: &[u8], at: usize) -> Number
 }
 
 fn pair_at(line: &[u8], at: usize) -> Pair
-    ensures { result ≡ numbers_at line.now at }
+    ensures { result ≡ pair_at line.now at }
 {
     match read_field(line, at) {
         Field::Number(key, end) => match rest_at(line, end + 1) {

@@ -1,8 +1,7 @@
 // "A reader holds the input and its place in it": thin functions over those that take a slice and a number. Each function
 // here is proved by hand; who calls `read_field` or `read_line`, whose parameters are plain, needs no proof of that kind.
 ghost use Rattle.std.specs.Prelude.{◌≡◌};
-ghost use Rattle.command.specs.proved.LineParts.{field_at};
-ghost use Rattle.command.specs.LineReading.{line_at};
+ghost use Rattle.command.specs.Reading.{field_at, line_at};
 
 use crate::{Field, Next, field_at, line_at};
 

@@ -1,5 +1,7 @@
 // Reads the lines of a few short inputs and then of standard input, and tells what was read: for each line its number, its
 // kind (1 put, 2 set, 3 del, 4 get, 5 list, 9 malformed), key and value; behind the last line how many lines and bytes.
+#![tactic(auto)]
+
 use command::{Command, Next};
 use libc::{STDIN_FILENO, STDOUT_FILENO};
 

@@ -1,7 +1,6 @@
 // The calls of `index`, `writing` and `machine`.
-ghost use Rattle.writing.specs.Making as change;
-ghost use Rattle.promises.specs.Calls as asked;
-ghost use Rattle.promises.specs.Inside.{Inside};
+ghost use Rattle.demands.specs.Calls.{Allowed};
+ghost use Rattle.demands.specs.Calls as asked;
 
 use index::find::{Found, find};
 use index::listing::{Listed, listing};
@@ -12,51 +11,51 @@ use writing::change::{del, set};
 use writing::put::put;
 
 pub fn find_allowed(image: &[u8], key: u64) -> Found
-    ensures { Inside (asked.find image.now key) result }
+    ensures { Allowed (asked.find image.now key) result }
 {
     find(image, key)
 }
 
 pub fn listing_allowed(image: &[u8], from: u64, keys: &mut [u64], values: &mut [u64]) -> Listed
-    ensures { Inside (asked.listing image.now from keys.old values.old)
+    ensures { Allowed (asked.listing image.now from keys.old values.old)
         (result, keys.new, values.new) }
 {
     listing(image, from, keys, values)
 }
 
 pub fn recovery_allowed(image: &[u8], smallest: &mut [u64], blocks: &mut [u64]) -> Recovered
-    ensures { Inside (asked.recovery image.now smallest.old blocks.old)
+    ensures { Allowed (asked.recovery image.now smallest.old blocks.old)
         (result, smallest.new, blocks.new) }
 {
     recovery(image, smallest, blocks)
 }
 
 pub fn put_allowed(image: &[u8], list: &mut [u64], key: u64, value: u64) -> Made
-    ensures { Inside (asked.make (change.put key value) image.now list.old) (result, list.new) }
+    ensures { Allowed (asked.put image.now list.old key value) (result, list.new) }
 {
     put(image, list, key, value)
 }
 
 pub fn set_allowed(image: &[u8], list: &mut [u64], key: u64, value: u64) -> Made
-    ensures { Inside (asked.make (change.set key value) image.now list.old) (result, list.new) }
+    ensures { Allowed (asked.set image.now list.old key value) (result, list.new) }
 {
     set(image, list, key, value)
 }
 
 pub fn del_allowed(image: &[u8], list: &mut [u64], key: u64) -> Made
-    ensures { Inside (asked.make (change.del key) image.now list.old) (result, list.new) }
+    ensures { Allowed (asked.del image.now list.old key) (result, list.new) }
 {
     del(image, list, key)
 }
 
 pub fn run_allowed(image: &mut [u8], list: &[u64], n: usize) -> Ran
-    ensures { Inside (asked.run image.old list.now n) (result, image.new) }
+    ensures { Allowed (asked.run image.old list.now n) (result, image.new) }
 {
     run(image, list, n)
 }
 
 pub fn cut_allowed(image: &mut [u8], list: &[u64], n: usize, arrivals: &[u64]) -> Ran
-    ensures { Inside (asked.cut image.old list.now n arrivals.now) (result, image.new) }
+    ensures { Allowed (asked.cut image.old list.now n arrivals.now) (result, image.new) }
 {
     cut(image, list, n, arrivals)
 }

@@ -1,3 +1,6 @@
-// The calls of `index`, `writing` and `machine` once more, each promising what the family promises/specs/Inside has of it: so that
-// the family is the sources' by proof, and not by a reader's eye.
+// The calls once more, each promising what the demands speak of: so that the family of contracts in demands/specs/Calls and
+// demands/specs/UniqueOutside is the sources' by proof, and not by a reader's eye.
+#![tactic(auto)]
+
 mod inside;
+mod outside;

@@ -1,15 +1,16 @@
 -- Document 01's table of refusals, as sentences: for each call its numbers in their order, each with the sentence under which it
--- is "given exactly".
+-- is "given exactly". To be believed.
 use Rattle.std.specs.Prelude.{◌≡◌, true, List, [], ◌∷◌, ◌⊎◌, ◌≢◌, ℕ, ◌+◌, ◌*◌, ◌/◌, ◌%◌, ◌<◌, length, get_or}
 use Rattle.leaf.specs.Leaf.{Taken}
 use Rattle.steps.specs.declared.Step.{Step}
-use Rattle.steps.specs.Model.{line, made, rule01, settled, arrived}
+use Rattle.steps.specs.Model.{line, made, rule01, settled}
 use Rattle.steps.specs.Encoding.{first, second, in_image, step_at}
+use Rattle.machine.specs.Taking.{arrived}
 use Rattle.image.specs.Chain.{Has}
 use Rattle.image.specs.Image.{blocks, leaves, SoundImage}
-use Rattle.index.specs.Held.{chain_of}
-use Rattle.writing.specs.Making.{target_of, Change, put, set, del}
-use Rattle.promises.specs.Calls.{Asked, find, listing, recovery, make, run, cut}
+use Rattle.index.specs.Reading.{chain_of}
+use Rattle.writing.specs.Writing.{target_of}
+use Rattle.demands.specs.Calls.{Asked, find, listing, recovery, put, set, del, run, cut}
 
 -- 1: "image length 0, over 65,536, or no multiple of 256"
 abbrev pub BadLength : List ℕ → Type 0
@@ -62,24 +63,26 @@ BadArrivals size list n arrivals =
 abbrev pub Rows : Type 1
 Rows = List (ℕ × Type 0)
 
--- a making call's own
-abbrev pub own_conditions : Change → List ℕ → Rows
-own_conditions (put k v) image = (4, Present image k) ∷ (6, Full image k) ∷ []
-own_conditions (set k v) image = (5, Absent image k) ∷ []
-own_conditions (del k) image = (5, Absent image k) ∷ []
-
 abbrev pub conditions : Asked → Rows
 conditions (find image key) = (1, BadLength image) ∷ (3, Unsound image) ∷ (5, Absent image key) ∷ []
 conditions (listing image from keys values) = (1, BadLength image) ∷ (3, Unsound image) ∷ []
 conditions (recovery image smallest numbers) =
     (1, BadLength image) ∷ (8, ShortBuffer image smallest numbers) ∷ (3, Unsound image) ∷ []
-conditions (make change image list) =
-    (1, BadLength image) ∷ (2, ShortList list) ∷ (3, Unsound image) ∷ own_conditions change image
+conditions (put image list key value) =
+    (1, BadLength image) ∷ (2, ShortList list) ∷ (3, Unsound image) ∷ (4, Present image key) ∷ (6, Full image key) ∷ []
+conditions (set image list key value) =
+    (1, BadLength image) ∷ (2, ShortList list) ∷ (3, Unsound image) ∷ (5, Absent image key) ∷ []
+conditions (del image list key) =
+    (1, BadLength image) ∷ (2, ShortList list) ∷ (3, Unsound image) ∷ (5, Absent image key) ∷ []
 conditions (run image list n) = (1, BadLength image) ∷ (7, BadSteps (length image) list n) ∷ []
 conditions (cut image list n arrivals) =
     (1, BadLength image) ∷ (7, BadSteps (length image) list n) ∷ (10, BadArrivals (length image) list n arrivals) ∷ []
 
--- n's sentence holds, and no sentence before it in the order does. "An accepted call answers 0."
+-- n's sentence holds, and no sentence before it in the order does
 abbrev pub Given : ℕ → Rows → Type 0
-Given n [] = n ≡ 0
+Given n [] = ⊥
 Given n (row ∷ rows) = ((row.0 ≡ n) × row.1) ⊎ ((row.1 → ⊥) × Given n rows)
+
+abbrev pub NoneGiven : Rows → Type 0
+NoneGiven [] = Unit {0}
+NoneGiven (row ∷ rows) = (row.1 → ⊥) × NoneGiven rows

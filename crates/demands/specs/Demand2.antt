@@ -1,68 +1,100 @@
--- Demand 2, for every image of bytes, key, value and list, with no hypothesis but that the call was accepted.
-use Rattle.std.specs.Prelude.{◌≡◌, false, List, [], ◌∷◌, ◌⊎◌, ℕ, ◌*◌, ◌^◌, ◌≤◌, ◌<◌, length, replicate}
-use Rattle.words.specs.Words.{Bytes}
-use Rattle.steps.specs.declared.Step.{Step}
-use Rattle.steps.specs.Model.{line, made, run, cut, rule01, settled, Permitted, line_writes, word_writes, arrived}
-use Rattle.steps.specs.Encoding.{step_at, steps_of, written}
+-- "2. On every sound image find, put, set, del and listing agree with a plain map from 64-bit keys to 64-bit values, and the
+-- steps made are exactly document 01's. Run to the end they give the map after the call, every store settled. Cut after any
+-- number of steps, each line holding any permitted number of its stores, they leave a sound image whose map is the one before or
+-- the one after."
+--
+-- The steps are document 01's by the calls' contracts (`put_of`, `set_of`, `del_of` write `put_list`, `set_list`, `del_list`). Here is
+-- that find and listing answer from the map (`agrees`), and what running and cutting the lists leaves (`demand2`): for every image
+-- of bytes, key, value and list, with no hypothesis but that the call was accepted.
+use Rattle.std.specs.Prelude.{◌≡◌, false, List, ◌⊎◌, ℕ, ◌^◌, ◌≤◌, ◌<◌, length}
+use Rattle.std.proofs.Common.{inl, inr}
+use Rattle.steps.specs.Model.{rule01}
+use Rattle.steps.specs.Settling.{AllSettled}
+use Rattle.steps.specs.Encoding.{step_at}
 use Rattle.steps.specs.Refusals.{bad_image}
-use Rattle.machine.specs.Taking.{store_word}
+use Rattle.machine.specs.Taking.{run_of, cut_of}
+use Rattle.words.specs.WordLaws.{Bytes}
 use Rattle.image.specs.Map.{Entry, put_in, without}
 use Rattle.image.specs.Image.{SoundImage}
-use Rattle.index.specs.Held.{entries_in}
-use Rattle.writing.specs.Making.{Change, put, set, del, steps_for}
-use Rattle.promises.specs.Calls as asked
-use Rattle.promises.specs.Calls.{Told, tells, buffer, steps, Interface, Accepted, told_by}
+use Rattle.index.specs.Reading.{entries_in}
+use Rattle.lists.specs.Served.{per_put, per_change}
+use Rattle.writing.specs.Writing.{Outcome, put_of, set_of, del_of}
 use Rattle.demands.specs.Holds.{Holds}
+use Rattle.demands.specs.Accepted.{set_accepted, del_accepted, put_accepted}
+use Rattle.demands.specs.Carried.{Carried, carried, sound_holds, left_holds}
 
--- "64-bit keys", "64-bit values"
-abbrev pub Numbers : Change → Type 0
-Numbers (put k v) = (k < 2 ^ 64) × (v < 2 ^ 64)
-Numbers (set k v) = (k < 2 ^ 64) × (v < 2 ^ 64)
-Numbers (del k) = k < 2 ^ 64
+-- ---- what is demanded
 
--- the plain map after the call
-abbrev pub after : Change → List Entry → List Entry
+pub data Call : Type 0 where
+  put : ℕ → ℕ → Call
+  set : ℕ → ℕ → Call
+  del : ℕ → Call
+
+-- what the call answers and the list it leaves
+abbrev pub answered : Call → List ℕ → List ℕ → Outcome
+answered (put k v) image list = put_of image list k v
+answered (set k v) image list = set_of image list k v
+answered (del k) image list = del_of image list k
+
+-- the plain map after it
+abbrev pub after : Call → List Entry → List Entry
 after (put k v) m = put_in k v m
 after (set k v) m = put_in k v m
 after (del k) m = without k m
 
--- "Put, set and del only write the list, from its start, and tell steps, line writes and word writes."
-abbrev pub told_steps : List Step → List ℕ → Told
-told_steps xs list =
-    tells 0 (length xs ∷ line_writes (steps_of xs) (length xs) ∷ word_writes (steps_of xs) (length xs) ∷ []) (written xs list ∷ [])
+-- "64-bit keys", "64-bit values"
+abbrev pub Numbers : Call → Type 0
+Numbers (put k v) = (k < 2 ^ 64) × (v < 2 ^ 64)
+Numbers (set k v) = (k < 2 ^ 64) × (v < 2 ^ 64)
+Numbers (del k) = k < 2 ^ 64
 
--- the image after the first n steps of a list: as the processor sees it, ..
-abbrev pub ran : List ℕ → List ℕ → ℕ → List ℕ
-ran image list n = run store_word (step_at list) image n
-
--- .. and as the memory holds it after a cut, where of each line the first few stores arrived that a says
-abbrev pub cut_at : List ℕ → List ℕ → ℕ → (ℕ → ℕ) → List ℕ
-cut_at image list n a = cut store_word line (step_at list) a image n
-
--- of what an accepted call told, t
-pub record Fulfils (X : Interface) (c : Change) (image list : List ℕ) (t : Told) : Type 0 where
-  -- "the steps made are exactly the documents'", and run takes them
-  pub exact : t ≡ told_steps (steps_for c image) list
-  pub formed : (r : X.Result (asked.run image (buffer t) (steps t))) → X.Allowed (asked.run image (buffer t) (steps t)) r
-      → (X.told (asked.run image (buffer t) (steps t)) r).number ≡ 0
+-- of what the call told and left, o: the list and its steps
+pub record Left (call : Call) (image : List ℕ) (o : Outcome) : Type 0 where
   -- "Run to the end they give the map after the call, every store settled."
-  pub whole : Holds X (ran image (buffer t) (steps t)) (after c (entries_in image))
-  pub settled : (l : ℕ) → settled line rule01 (step_at (buffer t)) (steps t) l ≡ made line (step_at (buffer t)) (steps t) l
+  pub accepted : (run_of image o.list o.steps).answer ≡ 0
+  pub whole : Holds (run_of image o.list o.steps).image (after call (entries_in image))
+  pub settled : AllSettled rule01 (step_at o.list) o.steps
   -- "Cut after any number of steps, each line holding any permitted number of its stores, they leave a sound image whose map is
   -- the one before or the one after."
-  pub cuts : (n : ℕ) (a : ℕ → ℕ) → n ≤ steps t → Permitted line rule01 (step_at (buffer t)) n a
-      → Holds X (cut_at image (buffer t) n a) (entries_in image) ⊎ Holds X (cut_at image (buffer t) n a) (after c (entries_in image))
+  pub cut : (n : ℕ) (arrivals : List ℕ) → n ≤ o.steps → (cut_of image o.list n arrivals).answer ≡ 0
+      → Holds (cut_of image o.list n arrivals).image (entries_in image)
+      ⊎ Holds (cut_of image o.list n arrivals).image (after call (entries_in image))
 
-pub record Demand2 (X : Interface) : Type 0 where
-  -- "An all-zero image is blank: sound, with an empty map."
-  pub blank : (n : ℕ) → 1 ≤ n → n ≤ 256 → Holds X (replicate (256 * n) 0) []
-  -- "On every sound image the calls agree with a plain map": find, listing and recovery, ..
-  pub agrees : (image : List ℕ) → bad_image (length image) ≡ false → SoundImage image → Holds X image (entries_in image)
-  -- .. put, set and del, ..
-  pub makes : (c : Change) (image list : List ℕ) → Bytes image → Numbers c → (a : Accepted X (asked.make c image list))
-      → Fulfils X c image list (told_by a)
-  -- .. and the two that take steps: "Run takes the first n steps of a list over an image as the processor sees it (..). Cut does the
-  -- same as the memory holds it, given for each line how many of its stores in the first n steps arrived."
-  pub runs : (image list : List ℕ) (n : ℕ) (a : Accepted X (asked.run image list n)) → buffer (told_by a) ≡ ran image list n
-  pub cuts : (image list : List ℕ) (n : ℕ) (arrivals : List ℕ) (a : Accepted X (asked.cut image list n arrivals))
-      → buffer (told_by a) ≡ cut_at image list n (arrived arrivals)
+abbrev pub Demanded : Call → List ℕ → List ℕ → Type 0
+Demanded call image list = Left call image (answered call image list)
+
+-- ---- what each call may cost, for demand 3
+
+abbrev pub price : Call → ℕ
+price (put k v) = per_put
+price (set k v) = per_change
+price (del k) = per_change
+
+pub carried_call : (call : Call) (image list : List ℕ) → Bytes image → Numbers call → (answered call image list).answer ≡ 0
+    → Carried image (answered call image list) (after call (entries_in image)) (price call)
+carried_call (put k v) image list b n e =
+    carried image list _ (put_in k v (entries_in image)) per_put (put_accepted image list k b v n.0 n.1 e)
+carried_call (set k v) image list b n e =
+    carried image list _ (put_in k v (entries_in image)) per_change (set_accepted image list k b v n.1 e)
+carried_call (del k) image list b n e =
+    carried image list _ (without k (entries_in image)) per_change (del_accepted image list k b e)
+
+-- ---- THE DEMAND
+
+-- "On every sound image find, (..) and listing agree with a plain map"
+pub agrees : (image : List ℕ) → bad_image (length image) ≡ false → SoundImage image → Holds image (entries_in image)
+agrees = sound_holds
+
+pub demand2 : (call : Call) (image list : List ℕ) → Bytes image → Numbers call → (answered call image list).answer ≡ 0
+    → Demanded call image list
+demand2 call image list b n e =
+    let C = carried_call call image list b n e in
+    record {
+      accepted = C.accepted;
+      whole = left_holds C.fine C.whole;
+      settled = C.settled;
+      cut = λ m arrivals h a. elim (C.cuts m arrivals h a) [
+        | inl x ↦ inl (left_holds C.fine x)
+        | inr x ↦ inr (left_holds C.fine x)
+      ];
+    }

@@ -1,48 +1,139 @@
--- Demand 3.
-use Rattle.std.specs.Prelude.{List, ℕ, ◌+◌, ◌*◌, ◌≤◌, get_or, replicate}
-use Rattle.words.specs.Words.{Bytes}
-use Rattle.steps.specs.Model.{line, rule01, Permitted, line_writes}
+-- "3. From a blank image, over any run of calls, whole or cut (I puts, D dels, R sets run whole, C accepted calls cut, W line
+-- write-backs taken): 7W ≤ 20I + 7(D + R) + 42C, and no call takes more than 8."
+use Rattle.std.specs.Prelude.{◌≡◌, refl, false, List, ℕ, ◌+◌, ◌*◌, ◌≤◌, length, replicate}
+use Rattle.std.proofs.Common.{ap, ◌∙◌, inl, inr, arith}
+use Rattle.std.proofs.lemmas.List.{length-replicate}
+use Rattle.words.specs.WordLaws.{Bytes}
+use Rattle.steps.specs.Model.{line_writes}
 use Rattle.steps.specs.Encoding.{step_at}
-use Rattle.writing.specs.Making.{Change, put, set, del}
-use Rattle.promises.specs.Calls.{make, Told, buffer, steps, Interface, Accepted, told_by}
-use Rattle.demands.specs.Demand2.{Numbers, ran, cut_at}
+use Rattle.steps.specs.Refusals.{bad_image}
+use Rattle.machine.specs.Taking.{run_of, cut_of}
+use Rattle.image.specs.Map.{Entry}
+use Rattle.image.specs.Potential.{phi}
+use Rattle.image.specs.Image.{leaves}
+use Rattle.image.specs.ImageLaws.{length_good, zeros_blank, blank_sound, blank_phi}
+use Rattle.index.specs.Reading.{chain_of}
+use Rattle.index.specs.SoundTest.{sound_chain}
+use Rattle.lists.specs.Bytes.{LeftBytes}
+use Rattle.writing.specs.Writing.{Outcome}
+use Rattle.demands.specs.Demand2.{Call, put, set, del, answered, Numbers, price, carried_call}
+
+-- ---- a run of calls
 
 -- "I puts, D dels, R sets run whole"
-abbrev pub puts : Change → ℕ
+abbrev pub puts : Call → ℕ
 puts (put k v) = 1
 puts (set k v) = 0
 puts (del k) = 0
 
-abbrev pub dels : Change → ℕ
+abbrev pub dels : Call → ℕ
 dels (put k v) = 0
 dels (set k v) = 0
 dels (del k) = 1
 
-abbrev pub sets : Change → ℕ
+abbrev pub sets : Call → ℕ
 sets (put k v) = 0
 sets (set k v) = 1
 sets (del k) = 0
 
--- "W line write-backs taken": the write-back steps among the first n of the list that a call left, from the list itself
-abbrev pub write_backs : Told → ℕ → ℕ
-write_backs t n = line_writes (step_at (buffer t)) n
+-- the image that a call's list leaves, run whole
+abbrev pub ran : List ℕ → Outcome → List ℕ
+ran image o = (run_of image o.list o.steps).image
+
+-- "W line write-backs taken": the write-back steps among the list's first n, from the list itself
+abbrev pub taken : Outcome → ℕ → ℕ
+taken o n = line_writes (step_at o.list) n
 
 -- The image that a run has come to, with I, D, R, C and W. Each accepted call is run whole or cut; the next starts from the image
 -- so left; refused calls and reads in between change nothing.
-pub data Run (X : Interface) : List ℕ → ℕ → ℕ → ℕ → ℕ → ℕ → Type 0 where
+pub data Run : List ℕ → ℕ → ℕ → ℕ → ℕ → ℕ → Type 0 where
   -- "From a blank image"
-  blank : (n : ℕ) → 1 ≤ n → n ≤ 256 → Run X (replicate (256 * n) 0) 0 0 0 0 0
-  whole : {image : List ℕ} {I D R C W : ℕ} → Run X image I D R C W → (c : Change) (list : List ℕ) → Numbers c
-      → (a : Accepted X (make c image list))
-      → Run X (ran image (buffer (told_by a)) (steps (told_by a))) (I + puts c) (D + dels c) (R + sets c) C
-      (W + write_backs (told_by a) (steps (told_by a)))
-  cut : {image : List ℕ} {I D R C W : ℕ} → Run X image I D R C W → (c : Change) (list : List ℕ) → Numbers c
-      → (a : Accepted X (make c image list)) (n : ℕ) (b : ℕ → ℕ) → n ≤ steps (told_by a)
-      → Permitted line rule01 (step_at (buffer (told_by a))) n b
-      → Run X (cut_at image (buffer (told_by a)) n b) I D R (C + 1) (W + write_backs (told_by a) n)
+  blank : (n : ℕ) → 1 ≤ n → n ≤ 256 → Run (replicate (256 * n) 0) 0 0 0 0 0
+  whole : {image : List ℕ} {I D R C W : ℕ} → Run image I D R C W → (call : Call) (list : List ℕ) → Numbers call
+      → (answered call image list).answer ≡ 0
+      → Run (ran image (answered call image list)) (I + puts call) (D + dels call) (R + sets call) C
+      (W + taken (answered call image list) (answered call image list).steps)
+  cut : {image : List ℕ} {I D R C W : ℕ} → Run image I D R C W → (call : Call) (list : List ℕ) → Numbers call
+      → (answered call image list).answer ≡ 0 → (n : ℕ) (arrivals : List ℕ) → n ≤ (answered call image list).steps
+      → (cut_of image (answered call image list).list n arrivals).answer ≡ 0
+      → Run (cut_of image (answered call image list).list n arrivals).image I D R (C + 1)
+      (W + taken (answered call image list) n)
 
-pub record Demand3 (X : Interface) : Type 0 where
-  pub bound : (image : List ℕ) (I D R C W : ℕ) → Run X image I D R C W → 7 * W ≤ 20 * I + 7 * (D + R) + 42 * C
-  -- "and no call takes more than 8": neither by what it tells nor by the list itself, run whole or cut
-  pub most : (c : Change) (image list : List ℕ) → Bytes image → Numbers c → (a : Accepted X (make c image list))
-      → (get_or (told_by a).counts 1 0 ≤ 8) × ((n : ℕ) → n ≤ steps (told_by a) → write_backs (told_by a) n ≤ 8)
+-- ---- the potential of an image pays for the line writes
+
+abbrev potential : List ℕ → ℕ
+potential l = phi (leaves l) (chain_of l)
+
+record Paid (image : List ℕ) (W bound : ℕ) : Type 0 where
+  bytes : Bytes image
+  fine : bad_image (length image) ≡ false
+  within : 7 * W + potential image ≤ bound
+
+-- an image that a list leaves, at the cost of w line writes
+left_paid : (l m : List ℕ) (es : List Entry) (W bound w more : ℕ) → bad_image (length l) ≡ false → Paid l W bound
+    → LeftBytes l m es (7 * w) (potential l + more) → Paid m (W + w) (bound + more)
+left_paid l m es W bound w more fine P L =
+    let f : bad_image (length m) ≡ false = ap bad_image L.long ∙ fine in
+    record {
+      bytes = L.bytes;
+      fine = f;
+      within = omega (
+        arith,
+        P.within,
+        L.left.within,
+        ap (phi (leaves m)) (sound_chain m L.left.chain f L.left.sound),
+      );
+    }
+
+price_is : (call : Call) → price call ≡ 20 * puts call + 7 * (dels call + sets call)
+price_is (put k v) = refl
+price_is (set k v) = refl
+price_is (del k) = refl
+
+zero_bytes : (n : ℕ) → Bytes (replicate n 0)
+zero_bytes n i = omega (arith, zeros_blank n i)
+
+blank_paid : (n : ℕ) → 1 ≤ n → n ≤ 256 → Paid (replicate (256 * n) 0) 0 0
+blank_paid n some most =
+    let l : List ℕ = replicate (256 * n) 0 in
+    let z : length l ≡ 256 * n = length-replicate {A = ℕ} (256 * n) 0 in
+    let f : bad_image (length l) ≡ false =
+    length_good l (record { whole = omega (arith, z); some = omega (arith, z); most = omega (arith, z) }) in
+    let c = sound_chain l _ f (blank_sound l (zeros_blank (256 * n)) (omega (arith, z))) in
+    record {
+      bytes = zero_bytes (256 * n);
+      fine = f;
+      within = omega (arith, ap (phi (leaves l)) c, blank_phi l (zeros_blank (256 * n)) 6 7);
+    }
+
+paid : {image : List ℕ} {I D R C W : ℕ} → Run image I D R C W → Paid image W (20 * I + 7 * (D + R) + 42 * C)
+paid (blank n some most) = blank_paid n some most
+paid (whole {image} {I} {D} {R} {C} {W} r call list small e) =
+    let P = paid r in
+    let A = carried_call call image list P.bytes small e in
+    let o = answered call image list in
+    let Q =
+    left_paid image (ran image o) _ W (20 * I + 7 * (D + R) + 42 * C) (taken o o.steps) (price call) A.fine P A.whole in
+    record { bytes = Q.bytes; fine = Q.fine; within = omega (arith, Q.within, price_is call) }
+paid (cut {image} {I} {D} {R} {C} {W} r call list small e n arrivals h a) =
+    let P = paid r in
+    let A = carried_call call image list P.bytes small e in
+    let o = answered call image list in
+    elim (A.cuts n arrivals h a) [
+      | inl L ↦ more (left_paid image _ _ W (20 * I + 7 * (D + R) + 42 * C) (taken o n) 42 A.fine P L)
+      | inr L ↦ more (left_paid image _ _ W (20 * I + 7 * (D + R) + 42 * C) (taken o n) 42 A.fine P L)
+    ]
+  where
+    more : {m : List ℕ} {w : ℕ} → Paid m w (20 * I + 7 * (D + R) + 42 * C + 42) → Paid m w (20 * I + 7 * (D + R) + 42 * (C + 1))
+    more Q = record { bytes = Q.bytes; fine = Q.fine; within = omega (arith, Q.within) }
+
+-- ---- THE DEMAND
+
+-- "and no call takes more than 8": neither by what it tells nor by the list itself, run whole or cut
+pub no_more_than_8 : (call : Call) (image list : List ℕ) → Bytes image → Numbers call → (answered call image list).answer ≡ 0
+    → ((answered call image list).lines ≤ 8)
+    × ((n : ℕ) → n ≤ (answered call image list).steps → taken (answered call image list) n ≤ 8)
+no_more_than_8 call image list b n e = let C = carried_call call image list b n e in (C.told, C.lines)
+
+pub demand3 : {image : List ℕ} {I D R C W : ℕ} → Run image I D R C W → 7 * W ≤ 20 * I + 7 * (D + R) + 42 * C
+demand3 r = let P = paid r in omega (arith, P.within)

@@ -1,1 +1,2 @@
 // Theory only: all of it stands in specs/.
+#![tactic(auto)]

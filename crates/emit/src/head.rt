@@ -1,6 +1,6 @@
 // The two words of a header.
 ghost use Rattle.std.specs.Prelude.{◌≡◌};
-ghost use Rattle.header.specs.proved.HeaderCode.{bits_of};
+ghost use Rattle.header.specs.Header.{bits_of};
 ghost use Rattle.lists.specs.Lists.{low_word, high_word};
 
 use header::Header;

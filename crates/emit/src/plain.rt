@@ -1,13 +1,12 @@
 // The plain put: into line 0, or past it with the entries moved out of line 0.
 ghost use Rattle.std.specs.Prelude.{◌≡◌, ◌+◌, ◌*◌, ◌≤◌, ◌<◌, length};
-ghost use Rattle.header.specs.proved.HeaderCode.{bits_of};
-ghost use Rattle.header.specs.Header.{marked, cleared, fingerprint_of};
-ghost use Rattle.leaf.specs.proved.LeafLaws.{leaf_in};
-ghost use Rattle.leaf.specs.Leaf.{occ_in};
-ghost use Rattle.lists.specs.Lists.{entry_steps, near_put, copies_beside, copy_steps, filled_head, far_put, put_at, plain_put};
-ghost use Rattle.emit.specs.proved.Appended.{appended, Wrote};
-ghost use Rattle.emit.specs.proved.CopyLaws.{Turned};
-ghost use Rattle.emit.specs.proved.PutStretches.{settling, header_steps};
+ghost use Rattle.header.specs.Header.{bits_of, marked, cleared, fingerprint_of};
+ghost use Rattle.leaf.specs.Leaf.{leaf_in, occ_in};
+ghost use Rattle.lists.specs.Lists.{entry_steps, near_put, copies_beside, copy_steps, filled_head};
+ghost use Rattle.lists.specs.Lists.{far_put, put_at, plain_put};
+ghost use Rattle.emit.specs.Appended.{appended, Wrote};
+ghost use Rattle.emit.specs.CopyLaws.{Turned};
+ghost use Rattle.emit.specs.PutLaws.{settling, header_steps};
 
 use crate::head::{word0, word1};
 use crate::short::append_store;

@@ -1,11 +1,11 @@
 // The lists of three steps: set, and both of del.
 ghost use Rattle.std.specs.Prelude.{◌≡◌, ℕ, ◌+◌, ◌*◌, ◌≤◌, ◌<◌, length};
-ghost use Rattle.header.specs.proved.HeaderCode.{bits_of};
+ghost use Rattle.header.specs.Header.{bits_of};
 ghost use Rattle.leaf.specs.Leaf.{view};
 ghost use Rattle.steps.specs.Shapes.{one_store};
 ghost use Rattle.steps.specs.Encoding.{written};
 ghost use Rattle.lists.specs.Lists.{head_in, set_list, clear_list, unlink_list};
-ghost use Rattle.emit.specs.proved.Appended.{appended};
+ghost use Rattle.emit.specs.Appended.{appended};
 
 use crate::head::word0;
 use header::Header;

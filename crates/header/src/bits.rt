@@ -1,7 +1,7 @@
 // A run of bits of a word, read and replaced, and the lowest bit that is 1 or 0.
-ghost use Rattle.std.specs.Prelude.{◌≡◌, ◌+◌, ◌≤◌, ◌<◌, ◌^◌, not};
-ghost use Rattle.words.specs.proved.First.{FirstBelow};
-ghost use Rattle.header.specs.Fields.{field, is_one, patched};
+ghost use Rattle.std.specs.Prelude.{◌≡◌, ◌+◌, ◌≤◌, ◌<◌, ◌^◌};
+ghost use Rattle.header.specs.Fields.{field, patched};
+ghost use Rattle.header.specs.Lowest.{LowestOne, LowestZero};
 
 use words::LARGEST;
 
@@ -24,14 +24,14 @@ pub fn replace(n: u64, p: usize, w: usize, d: u64) -> u64
 
 // The lowest bit of n that is 1; 64 where none is.
 pub fn lowest_one(n: u64) -> usize
-    ensures { FirstBelow (is_one n) 64 result }
+    ensures { LowestOne n 64 result }
 {
     u64::trailing_zeros(n) as usize
 }
 
 // The lowest bit of n that is 0; 64 where none is.
 pub fn lowest_zero(n: u64) -> usize
-    ensures { FirstBelow (λ b. not (is_one n b)) 64 result }
+    ensures { LowestZero n 64 result }
 {
     u64::trailing_zeros(LARGEST - n) as usize
 }

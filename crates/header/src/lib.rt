@@ -1,12 +1,14 @@
 // The header of a leaf as a value: words 0 and 1. Bit s says that slot s is occupied, bit 14 is the lock, bit 15 is alt, and from
 // bit 16 on stand the fingerprints of the 14 slots.
+#![tactic(auto)]
+
 pub mod bits;
 
 ghost use Rattle.std.specs.Prelude.{◌≡◌, ◌+◌, ◌≤◌, ◌<◌, length};
-ghost use Rattle.words.specs.proved.First.{FirstBelow};
 ghost use Rattle.words.specs.Words.{word_at};
-ghost use Rattle.header.specs.proved.HeaderCode.{head_at, bits_of};
-ghost use Rattle.header.specs.Header.{is_occupied, fingerprint_in, is_locked, alt_in, marked, cleared, flipped, fingerprint_of};
+ghost use Rattle.header.specs.Header.{head_at, bits_of, is_occupied, fingerprint_in, is_locked, alt_in};
+ghost use Rattle.header.specs.Header.{marked, cleared, flipped, fingerprint_of};
+ghost use Rattle.header.specs.HeaderCode.{FirstTaken};
 
 use crate::bits::{get, lowest_one, replace};
 
@@ -36,7 +38,7 @@ impl Header {
 
     // The lowest occupied slot; 14 where none is.
     pub fn first_taken(self) -> usize
-        ensures { FirstBelow (is_occupied (bits_of self)) 14 result }
+        ensures { FirstTaken (bits_of self) result }
     {
         let s = lowest_one(self.low);
         if s < 14 { s } else { 14 }

@@ -1,6 +1,7 @@
 -- The chain of leaves, what it holds, and when it is sound. An image is here the leaf in each block, `I`.
 use Rattle.std.specs.Prelude.{◌≡◌, false, List, [], ◌∷◌, ◌⊎◌, ◌≢◌, ℕ, ◌<◌}
-use Rattle.leaf.specs.Leaf.{Leaf, Taken, In, Prints, Differ}
+use Rattle.header.specs.Header.{fingerprint_of}
+use Rattle.leaf.specs.Leaf.{Leaf, Taken, In}
 
 abbrev pub All : (ℕ → Type 0) → List ℕ → Type 0
 All P [] = Unit {0}
@@ -28,6 +29,13 @@ Has I (b ∷ bs) k v = In (I b) k v ⊎ Has I bs k v
 abbrev pub Rising : (ℕ → Leaf) → List ℕ → Type 0
 Rising I [] = Unit {0}
 Rising I (b ∷ bs) = ((k v j u : ℕ) → In (I b) k v → Has I bs j u → k < j) × Rising I bs
+
+-- an occupied slot is one of the leaf's, and has its key's fingerprint
+abbrev pub Prints : Leaf → Type 0
+Prints L = (s : ℕ) → Taken L s → (s < L.size) × (L.fp s ≡ fingerprint_of (L.key s))
+
+abbrev pub Differ : Leaf → Type 0
+Differ L = (s t : ℕ) → Taken L s → Taken L t → L.key s ≡ L.key t → s ≡ t
 
 pub record Filled (L : Leaf) : Type 0 where
   pub at : ℕ

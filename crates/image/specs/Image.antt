@@ -1,5 +1,5 @@
 -- An image as the contracts see it: its bytes.
-use Rattle.std.specs.Prelude.{◌≡◌, List, ℕ, ◌/◌, length}
+use Rattle.std.specs.Prelude.{◌≡◌, List, ℕ, ◌/◌, length, get_or}
 use Rattle.words.specs.Words.{reads}
 use Rattle.leaf.specs.Leaf.{Leaf, Taken, view}
 use Rattle.image.specs.Map.{Map}
@@ -20,6 +20,10 @@ pub record SoundImage (l : List ℕ) : Type 0 where
 -- "The map of a sound image is its occupied entries."
 abbrev pub map_of : (l : List ℕ) → SoundImage l → Map
 map_of l S = Has (leaves l) S.chain
+
+-- "An all-zero image is blank: sound, with an empty map."
+abbrev pub Blank : List ℕ → Type 0
+Blank l = (p : ℕ) → get_or l p 0 ≡ 0
 
 -- "Two sound images alike in length, chain, occupied slots and entries"
 pub record AlikeLeaf (L M : Leaf) : Type 0 where

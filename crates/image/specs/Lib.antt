@@ -1,7 +1,39 @@
--- A map, the chain and when it is sound, an image of bytes, and in what order a leaf's entries are taken.
+-- To believe: Map (a map, also as a rising list, with the plain operations), Chain (the chain, sound, the lowest free
+-- block), Target, Image (an image of bytes, the blank one, alike ones), Kept (what is used, harmless stores),
+-- Potential, Copies.
 pub mod Map
 pub mod Chain
-pub mod Order
+pub mod Target
 pub mod Image
+pub mod Kept
+pub mod Potential
 pub mod Copies
-pub mod proved
+-- Proved of maps and of one leaf: its edits, its count, its entries in rising order, the leaf parted in two.
+pub mod MapLaws
+pub mod ListLaws
+pub mod Same
+pub mod Edits
+pub mod CountLaws
+pub mod EditMaps
+pub mod Order
+pub mod Parting
+-- Of chains: parts, one stretch replaced by another, one chain and its length, the walk along it, targets, the rising
+-- list.
+pub mod ChainLaws
+pub mod Stretch
+pub mod ChainSize
+pub mod Walk
+pub mod TargetLaws
+pub mod Entries
+pub mod Changes
+pub mod Calls
+pub mod PotentialLaws
+-- Of words and bytes: stores as edits, kept and alike images, the image after each call's stores, the calls' answers.
+pub mod Stored
+pub mod Blocks
+pub mod KeptLaws
+pub mod ImageLaws
+pub mod WordCalls
+pub mod WordMoves
+pub mod WordSplit
+pub mod Answers

@@ -1,5 +1,5 @@
 -- A map as the relation of its keys and values, and as the list of its entries in rising order of their keys.
-use Rattle.std.specs.Prelude.{◌≡◌, Bool, cond, not, List, [], ◌∷◌, ◌++◌, ◌⊎◌, ℕ, suc, ◌≤◌, ltb, leb, eqb}
+use Rattle.std.specs.Prelude.{◌≡◌, Bool, cond, not, List, [], ◌∷◌, ◌++◌, ◌⊎◌, ◌≢◌, ℕ, suc, ◌≤◌, ltb, leb, eqb}
 use Rattle.std.proofs.Math.Option.{Option, some, none}
 
 -- ---- as a relation
@@ -10,6 +10,10 @@ Map = ℕ → ℕ → Type 0
 pub record SameMap (G H : Map) : Type 0 where
   pub to : (k v : ℕ) → G k v → H k v
   pub back : (k v : ℕ) → H k v → G k v
+
+-- the map H but at the key k, where the values are those of P: `λ u. u ≡ v` for a put or a set of v, `λ u. ⊥` for a del
+abbrev pub Altered : Map → ℕ → (ℕ → Type 0) → Map
+Altered H k P j u = (H j u × (j ≢ k)) ⊎ ((j ≡ k) × P u)
 
 -- ---- as a list
 

@@ -1,4 +1,12 @@
--- What find, listing and recovery answer.
-pub mod Held
+-- To believe: Reading (what find, listing and recovery answer). Proved of it: SoundTest (refusal 3 is image's `SoundImage`),
+-- Agreement (with the map), AlikeReading and BlankReading. The others serve the proofs of the calls.
 pub mod Reading
-pub mod proved
+pub mod SoundTest
+pub mod FindLaws
+pub mod Filling
+pub mod Along
+pub mod ListingLaws
+pub mod RecoveryLaws
+pub mod Agreement
+pub mod AlikeReading
+pub mod BlankReading

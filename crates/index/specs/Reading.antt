@@ -1,42 +1,62 @@
--- What find, listing and recovery answer, for all inputs. This is their whole contract.
-use Rattle.std.specs.Prelude.{Bool, true, false, cond, not, ◌||◌, List, [], ◌∷◌, map, ℕ, min, eqb, ltb, length, take}
+-- What find, listing and recovery answer, for all inputs. To be believed: this is their whole contract.
+use Rattle.std.specs.Prelude.{Bool, true, false, cond, not, ◌||◌, List, [], ◌∷◌, ◌++◌, map, ℕ, zero, suc, min, eqb, ltb, length, take, drop}
 use Rattle.std.proofs.Math.Option.{Option, some, none}
+use Rattle.leaf.specs.Leaf.{Leaf}
 use Rattle.leaf.specs.Search.{smallest_of}
 use Rattle.steps.specs.Refusals.{answer, bad_image}
 use Rattle.image.specs.Map.{Entry, lookup, starting_at}
+use Rattle.image.specs.Entries.{list_of}
 use Rattle.image.specs.Image.{blocks, leaves}
-use Rattle.survey.specs.proved.Walk.{surveyed}
+use Rattle.survey.specs.Walk.{surveyed}
 use Rattle.index.specs.declared.find.Found.{Found}
 use Rattle.index.specs.declared.find.Found.TheVariants.{Value, BadImage, Unsound, Absent}
 use Rattle.index.specs.declared.listing.Listed.{Listed}
-use Rattle.index.specs.declared.listing.Listed.TheVariants.{Count, BadImage as ListedBadImage, Unsound as ListedUnsound}
+use Rattle.index.specs.declared.listing.Listed.TheVariants.{
+  Count,
+  BadImage as ListedBadImage,
+  Unsound as ListedUnsound,
+}
 use Rattle.index.specs.declared.recovery.Recovered.{Recovered}
-use Rattle.index.specs.declared.recovery.Recovered.TheVariants.{Leaves, BadImage as RecoveredBadImage, ShortBuffer}
-use Rattle.index.specs.declared.recovery.Recovered.TheVariants.{Unsound as RecoveredUnsound}
-use Rattle.index.specs.Held.{chain_of, entries_in, over}
+use Rattle.index.specs.declared.recovery.Recovered.TheVariants.{
+  Leaves,
+  BadImage as RecoveredBadImage,
+  ShortBuffer,
+  Unsound as RecoveredUnsound,
+}
 
 -- ---- the image
 
--- Refusal 3, "image not sound", as a test: of an image of a good length it is image's `SoundImage`.
--- Read by its laws: sound-test, test-sound.
+-- Refusal 3, "image not sound", as a test: `SoundTest` proves that it is image's `SoundImage`.
 unfoldable pub is_sound : List ℕ → Bool
 is_sound l = eqb (surveyed (leaves l) (blocks l) 0).stage 1
+
+-- "A sibling is a block number; 0 ends the chain": the blocks met from block b on, at most n
+unfoldable pub chain_from : (ℕ → Leaf) → ℕ → ℕ → List ℕ
+chain_from I zero b = []
+chain_from I (suc n) b = b ∷ cond (eqb (I b).next 0) [] (chain_from I n (I b).next)
+
+unfoldable pub chain_of : List ℕ → List ℕ
+chain_of l = chain_from (leaves l) (blocks l) 0
+
+-- "The map of a sound image is its occupied entries", rising
+unfoldable pub entries_in : List ℕ → List Entry
+entries_in l = list_of (leaves l) (chain_of l)
 
 -- ---- find
 
 -- "When an answer is an enum, a definition gives this paper's number and values for each of its cases."
-pub record Finding : Type 0 where
+pub record Told : Type 0 where
   pub answer : ℕ
   pub value : ℕ
 
-abbrev pub finding : ℕ → ℕ → Finding
-finding n v = record { answer = n; value = v }
+abbrev pub told : ℕ → ℕ → Told
+told n v = record { answer = n; value = v }
 
-abbrev pub found_as : Found → Finding
-found_as (Value v) = finding 0 v
-found_as BadImage = finding 1 0
-found_as Unsound = finding 3 0
-found_as Absent = finding 5 0
+abbrev pub found_as : Found → Told
+found_as (Value v) = told 0 v
+found_as BadImage = told 1 0
+found_as Unsound = told 3 0
+found_as Absent = told 5 0
 
 abbrev pub is_none : Option ℕ → Bool
 is_none (some v) = false
@@ -51,9 +71,9 @@ abbrev pub find_table : List ℕ → ℕ → List (ℕ × Bool)
 find_table l k = (1, bad_image (length l)) ∷ (3, not (is_sound l)) ∷ (5, is_none (lookup k (entries_in l))) ∷ []
 
 -- "A refusal tells 0 for every count and value"
-unfoldable pub find_of : List ℕ → ℕ → Finding
+unfoldable pub find_of : List ℕ → ℕ → Told
 find_of l k =
-    let n = answer (find_table l k) in finding n (cond (eqb n 0) (value_or0 (lookup k (entries_in l))) 0)
+    let n = answer (find_table l k) in told n (cond (eqb n 0) (value_or0 (lookup k (entries_in l))) 0)
 
 -- ---- listing
 
@@ -77,6 +97,10 @@ pub record Listing : Type 0 where
 
 abbrev pub listing_is : Counted → List ℕ → List ℕ → Listing
 listing_is t keys values = record { told = t; keys = keys; values = values }
+
+-- "On success, (..) entries past what listing or recovery tells, stay": the first elements of a buffer become xs
+abbrev pub over : List ℕ → List ℕ → List ℕ
+over xs buffer = xs ++ drop (length xs) buffer
 
 abbrev pub listing_table : List ℕ → List (ℕ × Bool)
 listing_table l = (1, bad_image (length l)) ∷ (3, not (is_sound l)) ∷ []

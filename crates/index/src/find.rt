@@ -1,10 +1,10 @@
 // Find: the value of a key. It looks only in the key's target leaf.
 ghost use Rattle.std.specs.Prelude.{◌≡◌, ◌+◌, ◌*◌, ◌≤◌, length};
-ghost use Rattle.leaf.specs.proved.LeafLaws.{leaf_in};
+ghost use Rattle.leaf.specs.Leaf.{leaf_in};
 ghost use Rattle.leaf.specs.Search.{slot_of};
 ghost use Rattle.image.specs.Image.{leaves};
 ghost use Rattle.index.specs.Reading.{found_as, find_of};
-ghost use Rattle.index.specs.proved.FindLaws.{found_at};
+ghost use Rattle.index.specs.FindLaws.{found_at};
 
 use leaf::place::Leaf;
 use leaf::search::{Slot, find_slot, value_at};

@@ -1,13 +1,12 @@
 // Listing: the entries from a key on, rising, into two lent buffers.
 ghost use Rattle.std.specs.Prelude.{◌≡◌, ℕ, ◌+◌, ◌*◌, ◌/◌, ◌≤◌, ◌<◌, min, length, take, get_or};
-ghost use Rattle.leaf.specs.proved.LeafLaws.{leaf_in, Right};
+ghost use Rattle.leaf.specs.Leaf.{leaf_in, Right};
 ghost use Rattle.image.specs.Chain.{All};
-ghost use Rattle.image.specs.proved.Entries.{entries_at};
+ghost use Rattle.image.specs.Entries.{entries_at};
 ghost use Rattle.image.specs.Image.{blocks, leaves};
-ghost use Rattle.index.specs.Held.{chain_from};
-ghost use Rattle.index.specs.Reading.{listed_as, listing_is, listing_of};
-ghost use Rattle.index.specs.proved.Filling.{buffers, fill};
-ghost use Rattle.index.specs.proved.ListingLaws.{entries_from, list_from};
+ghost use Rattle.index.specs.Reading.{chain_from, listed_as, listing_is, listing_of};
+ghost use Rattle.index.specs.Filling.{buffers, fill};
+ghost use Rattle.index.specs.ListingLaws.{entries_from, list_from};
 
 use leaf::place::Leaf;
 use leaf::search::{key_at, value_at};

@@ -3,7 +3,7 @@
 ghost use Rattle.std.specs.Prelude.{◌≡◌, false, ◌/◌, ◌≤◌, length};
 ghost use Rattle.steps.specs.Refusals.{bad_image};
 ghost use Rattle.index.specs.Reading.{is_short, recovered_as, recovery_is, recovery_of};
-ghost use Rattle.index.specs.proved.RecoveryLaws.{Copied};
+ghost use Rattle.index.specs.RecoveryLaws.{Copied};
 
 use leaf::place::Leaf;
 use machine::bad_image;

@@ -1,5 +1,7 @@
 // Find, listing and recovery on images that are sound and on images damaged in each way that document 01 names. What it must
 // print is worked out by hand from document 01; the file stdout has it, and the file meaning a line for each of its lines.
+#![tactic(auto)]
+
 mod images;
 mod tell;
 

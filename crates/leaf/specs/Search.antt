@@ -1,5 +1,5 @@
 -- What is looked for in a leaf.
-use Rattle.std.specs.Prelude.{Bool, true, false, not, ℕ, zero, suc, ltb, leb, eqb}
+use Rattle.std.specs.Prelude.{Bool, true, false, not, ℕ, zero, suc, ◌<◌, ltb, leb, eqb}
 use Rattle.words.specs.Bools.{both}
 use Rattle.words.specs.Below.{count_below}
 use Rattle.header.specs.Header.{fingerprint_of}
@@ -15,6 +15,11 @@ pick_slot false s other = other
 unfoldable pub lowest : (ℕ → Bool) → ℕ → ℕ → Slot
 lowest f zero s = Missing
 lowest f (suc n) s = pick_slot (f s) s (lowest f n (suc s))
+
+-- a slot that was found is below n
+abbrev pub Within : ℕ → Slot → Type 0
+Within n (At s) = s < n
+Within n Missing = Unit {0}
 
 -- Slot s is occupied and holds the key. (01's slip: "A match on fingerprint alone, or on a vacant slot.")
 unfoldable pub holds_key : Leaf → ℕ → ℕ → Bool
@@ -53,7 +58,3 @@ smallest_of L = key_or0 L (least_from L 0)
 -- how many slots are occupied
 unfoldable pub count : Leaf → ℕ
 count L = count_below L.occ L.size
-
--- the key of slot s is at most x
-unfoldable pub at_most : Leaf → ℕ → ℕ → Bool
-at_most L x s = both (L.occ s) (leb (L.key s) x)

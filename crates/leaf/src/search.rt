@@ -1,14 +1,11 @@
 // The search in a leaf: a key, a vacant slot. The leaf is a part of 256 bytes of an image.
 ghost use Rattle.std.specs.Prelude.{◌≡◌, ◌≤◌, ◌<◌, length};
 ghost use Rattle.words.specs.Below.{count_below};
-ghost use Rattle.header.specs.proved.HeaderCode.{head_at, bits_of};
-ghost use Rattle.header.specs.Header.{fingerprint_of};
-ghost use Rattle.leaf.specs.proved.LeafLaws.{leaf_in};
-ghost use Rattle.leaf.specs.Leaf.{occ_in};
+ghost use Rattle.header.specs.Header.{head_at, bits_of, fingerprint_of};
+ghost use Rattle.leaf.specs.Leaf.{leaf_in, occ_in};
 ghost use Rattle.leaf.specs.Search.{holds_key, slot_of, lowest_vacant};
 
 use crate::place::Leaf;
-use header::bits::lowest_zero;
 use header::{Header, fingerprint_of};
 
 #[derive(Drop)]
@@ -79,12 +76,14 @@ pub fn find_slot(leaf: &[u8], key: u64) -> Slot
 pub fn lowest_vacant(head: Header) -> Slot
     ensures { result ≡ lowest_vacant (occ_in (bits_of head)) 14 }
 {
-    let s = lowest_zero(head.low);
-    if s < Leaf::SLOTS {
-        Slot::At(s)
-    } else {
-        Slot::Missing
+    let mut s = 0;
+    while s < Leaf::SLOTS {
+        if !head.occupied(s) {
+            return Slot::At(s);
+        }
+        s += 1;
     }
+    Slot::Missing
 }
 
 // How many slots are occupied.

@@ -1,11 +1,10 @@
 // One pass over a leaf's slots tells all that a walk of the chain asks of it. Per slot only numbers grow, and keys are compared
 // with each other only where a fingerprint comes twice: equal keys have equal fingerprints.
 ghost use Rattle.std.specs.Prelude.{◌≡◌, false, cond, ◌+◌, ◌%◌, ◌≤◌, ◌<◌, min, max, eqb, length, get_or, set};
-ghost use Rattle.header.specs.proved.HeaderCode.{head_at, bits_of};
-ghost use Rattle.header.specs.Header.{fingerprint_of};
-ghost use Rattle.leaf.specs.proved.LeafLaws.{leaf_in};
-ghost use Rattle.leaf.specs.proved.Tally.{Tells, shares, twin_at, twins};
-ghost use Rattle.leaf.specs.proved.TallySteps.{noted, passed, Few, Hits, TellsTo, Stamped};
+ghost use Rattle.header.specs.Header.{head_at, bits_of, fingerprint_of};
+ghost use Rattle.leaf.specs.Leaf.{leaf_in};
+ghost use Rattle.leaf.specs.Tally.{Tells, shares, twin_at, twins};
+ghost use Rattle.leaf.specs.TallySteps.{noted, passed, Few, Hits, TellsTo, Stamped};
 
 use crate::place::Leaf;
 use crate::search::key_at;

@@ -1,5 +1,7 @@
 // Runs the leaf on the cases that a search gets wrong first: no entry, 14 entries, keys 0 and 2^64 - 1, keys with one fingerprint.
 // What it must print is worked out by hand from document 01; the file stdout has it.
+#![tactic(auto)]
+
 ghost use Rattle.std.specs.Prelude.{◌≤◌, ◌<◌, ◌≡◌, length};
 
 use header::{Header, fingerprint_of};

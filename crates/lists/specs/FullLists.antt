@@ -1,6 +1,7 @@
 -- The lists of a put into a full leaf, and of put: document 01's section "What each call does", sentence by sentence.
+-- To be believed.
 use Rattle.std.specs.Prelude.{ℕ, suc, ◌+◌, ◌-◌, ◌*◌, Bool, true, false, cond, List, [], ◌∷◌, ◌++◌, ltb, drop, replicate}
-use Rattle.words.specs.Words.{upd}
+use Rattle.words.specs.Update.{upd}
 use Rattle.header.specs.Header.{alt_in, marked, flipped, fingerprint_of, cleared_all}
 use Rattle.leaf.specs.Leaf.{Leaf, occ_in, view}
 use Rattle.leaf.specs.Search.{lowest_vacant}
@@ -8,8 +9,9 @@ use Rattle.leaf.specs.declared.search.Slot.{Slot}
 use Rattle.leaf.specs.declared.search.Slot.TheVariants.{At, Missing}
 use Rattle.steps.specs.declared.Step.{Step}
 use Rattle.steps.specs.declared.Step.TheVariants.{Store as store, WriteBack as writeBack}
-use Rattle.steps.specs.Encoding.{run_all}
-use Rattle.steps.specs.Shapes.{two_parts, stores_from}
+use Rattle.steps.specs.Lists.{run_all}
+use Rattle.steps.specs.Shapes.{two_parts}
+use Rattle.steps.specs.Stores.{stores_from}
 use Rattle.image.specs.Order.{slots_of}
 use Rattle.lists.specs.Lists.{word_place, low_word, high_word, head_in, put_at, plain_put}
 
@@ -73,15 +75,21 @@ split_backs b c =
 unfoldable pub split_list : (ℕ → ℕ) → ℕ → ℕ → ℕ → ℕ → List Step
 split_list w b c k v = two_parts (split_stores w b c k v) (split_backs b c) [] (word_place b 0) (low_word (switched_head w b))
 
+-- the image when a whole list has been run
+abbrev pub after : List Step → (ℕ → ℕ) → ℕ → ℕ
+after l w = run_all upd l w
+
 -- "Where the new key is below the smallest moved key, a plain put into the old leaf follows, after that last fence. At
 -- most 56 steps, 8 of them line writes."
 -- "Correction to 001. Its Algorithm 3, lines 20 to 23, puts into the old leaf before the header is switched. The slot
 -- it takes is vacant only in the copy of the header; in the memory it still holds a moved entry. A cut there loses
--- that entry. Ours switches first." So this is the put of the image after the split.
+-- that entry. Ours switches first." So this is the put of the image after the split. With the keys 1 to 14 put in
+-- order and then 0, 001's order stores the key 0 over the key 13 of slot 0, which the header in the memory still
+-- calls occupied, and the new leaf is not linked yet: a cut there loses the entry 13.
 abbrev pub put_below : Bool → (ℕ → ℕ) → ℕ → ℕ → ℕ → ℕ → List Step
 put_below true w b c k v = []
 put_below false w b c k v =
-    let x = run_all upd (split_list w b c k v) w in plain_put (head_in x b) (view x b) b k v
+    let x = after (split_list w b c k v) w in plain_put (head_in x b) (view x b) b k v
 
 unfoldable pub full_put : (ℕ → ℕ) → ℕ → ℕ → ℕ → ℕ → List Step
 full_put w b c k v = split_list w b c k v ++ put_below (goes_up (view w b) k) w b c k v

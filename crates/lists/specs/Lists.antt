@@ -1,5 +1,8 @@
--- The lists of set, del and the plain put: document 01's section "What each call does", sentence by sentence.
--- An image is its words, `w`, and a place the number of one: block b has the words from 32b on and the lines from 4b on.
+-- The lists of set, del and the plain put: document 01's section "What each call does", sentence by sentence. To be
+-- believed.
+-- An image is its words, `w`. A place is the number of a word: block b has the words from 32b on and the lines from 4b
+-- on. A list is made of sections: `one_store p v` is a store, the write-back of its line and a fence, `one_line_lem t p v`
+-- has the stores t before it, and `two_parts s r t p v` before these the stores s, the write-backs r and a fence.
 use Rattle.std.specs.Prelude.{ℕ, suc, ◌+◌, ◌-◌, ◌*◌, ◌/◌, ◌%◌, ◌^◌, Bool, cond, not, List, [], ◌∷◌, ◌++◌, ltb, eqb}
 use Rattle.words.specs.Bools.{both}
 use Rattle.header.specs.Header.{alt_in, marked, cleared, fingerprint_of}
@@ -11,7 +14,7 @@ use Rattle.steps.specs.declared.Step.{Step}
 use Rattle.steps.specs.declared.Step.TheVariants.{Store as store, WriteBack as writeBack}
 use Rattle.steps.specs.Model.{line}
 use Rattle.steps.specs.Shapes.{one_store, one_line, two_parts}
-use Rattle.image.specs.Copies.{Copy, copies, copied_head}
+use Rattle.image.specs.Copies.{Copy, copies}
 
 -- ---- places and words of a leaf
 
@@ -88,7 +91,12 @@ copy_steps L b (c ∷ cs) =
     store (key_place b c.to) (L.key c.from) ∷ store (val_place b c.to) (L.val c.from) ∷ copy_steps L b cs
 
 -- ".. with the new entry and the copies marked, the copies' old bits cleared, new fingerprints at the filled slots, all
--- others kept." (`copied_head` says it of the copies.)
+-- others kept."
+abbrev pub copied_head : Leaf → ℕ → List Copy → ℕ
+copied_head L h [] = h
+copied_head L h (c ∷ cs) =
+    copied_head L (marked (cleared h c.from) c.to (fingerprint_of (L.key c.from))) cs
+
 unfoldable pub filled_head : ℕ → Leaf → ℕ → ℕ → ℕ
 filled_head h L s k = copied_head L (marked h s (fingerprint_of k)) (copies_beside h s)
 

@@ -1,3 +1,6 @@
--- What run and cut answer and leave.
 pub mod Taking
-pub mod proved
+pub mod Fits
+pub mod Tables
+pub mod Turns
+pub mod Lost
+pub mod TakingLaws

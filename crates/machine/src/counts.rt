@@ -2,8 +2,8 @@
 // write-back. A table has a byte for each line, since a list has at most 56 steps.
 ghost use Rattle.std.specs.Prelude.{◌≡◌, ◌*◌, ◌≤◌, length, get_or};
 ghost use Rattle.steps.specs.Encoding.{step_at};
-ghost use Rattle.steps.specs.proved.LastFence.{on_fence, last_fence};
-ghost use Rattle.machine.specs.proved.Tables.{store_counted, back_marked, Zero, Tally, Backs, AtMost};
+ghost use Rattle.steps.specs.LastFence.{on_fence, last_fence};
+ghost use Rattle.machine.specs.Tables.{counted, marked, Zero, Tally, Backs, AtMost};
 
 use crate::list::step_at;
 use steps::Step;
@@ -47,7 +47,7 @@ pub fn count_at(table: &[u8], l: u64) -> u64
 
 pub fn count_store(table: &mut [u8], step: Step)
     requires { AtMost 254 table.old }
-    ensures { table.new ≡ store_counted step table.old }
+    ensures { table.new ≡ counted step table.old }
 {
     match step {
         Step::Store(p, _) => {
@@ -62,7 +62,7 @@ pub fn count_store(table: &mut [u8], step: Step)
 }
 
 fn mark_back(table: &mut [u8], step: Step)
-    ensures { table.new ≡ back_marked step table.old }
+    ensures { table.new ≡ marked step table.old }
 {
     match step {
         Step::Store(_, _) => {}

@@ -1,4 +1,6 @@
 // Run and cut: the first n steps of a list taken over a lent image, as the processor sees it and as the memory holds it.
+#![tactic(auto)]
+
 mod counts;
 pub mod list;
 mod memory;

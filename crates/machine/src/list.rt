@@ -1,7 +1,6 @@
 // A list's words and its steps: two words a step.
 ghost use Rattle.std.specs.Prelude.{◌≡◌, ◌+◌, ◌*◌, ◌^◌, ◌≤◌, ◌<◌, length};
-ghost use Rattle.steps.specs.Encoding.{first, second, in_image, decode, well_formed, step_at, formed_at};
-ghost use Rattle.steps.specs.proved.EncodingLaws.{put_step};
+ghost use Rattle.steps.specs.Encoding.{first, second, in_image, decode, well_formed, step_at, formed_at, put_step};
 
 use steps::Step;
 

@@ -1,10 +1,10 @@
 // The steps taken over an image.
 ghost use Rattle.std.specs.Prelude.{◌≡◌, ◌*◌, ◌≤◌, length};
-ghost use Rattle.steps.specs.Model.{line, arrives, land, run, cut, arrived};
+ghost use Rattle.steps.specs.Model.{line, arrives, land, run, cut};
 ghost use Rattle.steps.specs.Encoding.{step_at};
-ghost use Rattle.machine.specs.Taking.{store_word};
-ghost use Rattle.machine.specs.proved.Fits.{StepFits, AllFit, CanTake};
-ghost use Rattle.machine.specs.proved.Lost.{Ready};
+ghost use Rattle.machine.specs.Taking.{store_word, arrived};
+ghost use Rattle.machine.specs.Fits.{Fits, AllFit, Taken};
+ghost use Rattle.machine.specs.Lost.{Ready};
 
 use crate::counts::{count_at, count_store};
 use crate::list::step_at;
@@ -13,7 +13,7 @@ use steps::Step;
 
 // The image after a step that arrives or does not.
 fn take_step(image: &mut [u8], arrive: bool, step: Step)
-    requires { StepFits (length image.old) step }
+    requires { Fits (length image.old) step }
     ensures { image.new ≡ land store_word arrive step image.old }
 {
     match step {
@@ -70,7 +70,7 @@ fn cut_on(image: &mut [u8], seen: &mut [u8], list: &[u64], n: usize, arrivals: &
 }
 
 pub fn cut_steps(image: &mut [u8], list: &[u64], n: usize, arrivals: &[u64])
-    requires { CanTake list.now n × AllFit (length image.old) list.now n }
+    requires { Taken list.now n × AllFit (length image.old) list.now n }
     ensures { image.new
         ≡ cut store_word line (step_at list.now) (arrived arrivals.now) image.old n }
 {

@@ -1,13 +1,12 @@
 // The conditions of the refusals 1, 7 and 10.
 ghost use Rattle.std.specs.Prelude.{◌≡◌, ◌*◌, ◌≤◌, length};
-ghost use Rattle.steps.specs.Model.{arrived};
 ghost use Rattle.words.specs.Below.{any_below};
 ghost use Rattle.steps.specs.Encoding.{step_at};
 ghost use Rattle.steps.specs.Refusals.{bad_image};
-ghost use Rattle.machine.specs.Taking.{malformed, bad_list, bad_arrivals};
-ghost use Rattle.machine.specs.proved.Fits.{ListPassed, CanTake};
-ghost use Rattle.machine.specs.proved.Tables.{Backs};
-ghost use Rattle.machine.specs.proved.Lost.{Ready, is_above, above_by, lost_by, lost_at, lost};
+ghost use Rattle.machine.specs.Taking.{malformed, bad_list, arrived, bad_arrivals};
+ghost use Rattle.machine.specs.Fits.{Passed, Taken};
+ghost use Rattle.machine.specs.Tables.{Backs};
+ghost use Rattle.machine.specs.Lost.{Ready, is_above, above_by, lost_by, lost_at, lost};
 
 use crate::counts::{count_at, count_store, last_fence, mark_backs, tally};
 use crate::list::{formed_at, step_at};
@@ -114,7 +113,7 @@ fn any_lost(seen: &mut [u8], list: &[u64], last: usize, backs: &[u8], arrivals: 
 
 // Is the number of a line below its settled stores: are there settled stores that did not arrive?
 fn misses_settled(list: &[u64], n: usize, arrivals: &[u64]) -> bool
-    requires { CanTake list.now n }
+    requires { Taken list.now n }
     ensures { result ≡ lost list.now n arrivals.now }
 {
     let last = last_fence(list, n);
@@ -126,7 +125,7 @@ fn misses_settled(list: &[u64], n: usize, arrivals: &[u64]) -> bool
 
 // Is the number of a line above its made stores?
 fn exceeds_made(list: &[u64], n: usize, arrivals: &[u64]) -> bool
-    requires { CanTake list.now n × (length arrivals.now ≤ 1024) }
+    requires { Taken list.now n × (length arrivals.now ≤ 1024) }
     ensures { result ≡ any_below (is_above list.now n arrivals.now) (length arrivals.now) }
 {
     let mut made = [0u8; 1024];
@@ -135,7 +134,7 @@ fn exceeds_made(list: &[u64], n: usize, arrivals: &[u64]) -> bool
 }
 
 pub fn bad_arrivals(size: u64, list: &[u64], n: usize, arrivals: &[u64]) -> bool
-    requires { ListPassed size list.now n }
+    requires { Passed size list.now n }
     ensures { result ≡ bad_arrivals size list.now n arrivals.now }
 {
     if arrivals.len() as u64 != size / 64 {

@@ -1,6 +1,8 @@
 // Run and cut on small cases, each with what it must print in `stdout`, worked out by hand from the sentences quoted here.
 // A line has the case's number and the answer; where an image is shown, it is one of 256 zero bytes, four lines, before the
 // call, and its bytes 0, 8 and 64 follow.
+#![tactic(auto)]
+
 use libc::STDOUT_FILENO;
 use machine::Ran;
 use words::wide;

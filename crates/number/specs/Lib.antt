@@ -1,3 +1,5 @@
--- Numbers as the bench program spells them.
+-- To believe: Decimal. Reading has the shape of the code; DecimalLaws says what Reading means.
 pub mod Decimal
-pub mod proved
+pub mod Reading
+pub mod ReadingLaws
+pub mod DecimalLaws

@@ -1,6 +1,8 @@
 // A field read as a number: decimal, with no sign and no leading zero but 0 itself, at most 2^64 - 1.
+#![tactic(auto)]
+
 ghost use Rattle.std.specs.Prelude.{◌≡◌};
-ghost use Rattle.number.specs.proved.NumberReading.{digit_of, grown, pushed, spelled_by};
+ghost use Rattle.number.specs.Reading.{digit_of, grown, pushed, spelled_by};
 
 use words::{LARGEST, wide};
 

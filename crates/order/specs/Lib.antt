@@ -1,2 +1,2 @@
--- A leaf's slots in rising order of their keys, as the code finds it.
-pub mod proved
+-- Insertion: what the code promises (`Ordered`, by image's `slots_from`), and the laws of putting in one slot more.
+pub mod Insertion

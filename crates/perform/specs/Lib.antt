@@ -1,3 +1,5 @@
--- What a command does and prints.
+-- To believe: Perform. Printing has the shape of the code that writes.
 pub mod Perform
-pub mod proved
+pub mod Printing
+pub mod PerformLaws
+pub mod ListLaws

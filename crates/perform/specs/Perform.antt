@@ -1,5 +1,5 @@
--- Document 01, "The bench program": what each command does to the image, and the lines that it prints.
-use Rattle.std.specs.Prelude.{◌≡◌, cond, List, [], ◌∷◌, ◌++◌, map, ℕ, eqb, length, drop, replicate}
+-- Document 01, "The bench program": what each command does to the image, and the lines that it prints. To be believed.
+use Rattle.std.specs.Prelude.{◌≡◌, Bool, cond, List, [], ◌∷◌, ◌++◌, map, ℕ, eqb, ltb, length, drop, replicate}
 use Rattle.number.specs.Decimal.{decimal}
 use Rattle.command.specs.Spelling.{parted}
 use Rattle.command.specs.declared.Command.{Command}
@@ -7,10 +7,12 @@ use Rattle.command.specs.declared.Command.TheVariants.{Put, Set, Del, Get, List 
 use Rattle.steps.specs.Refusals.{answer}
 use Rattle.machine.specs.Taking.{run_of}
 use Rattle.image.specs.Map.{Entry}
-use Rattle.index.specs.Reading.{Finding, find_of, listing_table}
-use Rattle.index.specs.Held.{entries_in}
-use Rattle.writing.specs.Writing.{Outcome, make_of}
-use Rattle.writing.specs.Making.{put, set, del}
+use Rattle.index.specs.Reading.{Told, find_of, listing_table, entries_in}
+use Rattle.writing.specs.Writing.{Outcome, put_of, set_of, del_of}
+
+-- "at most 65,536 bytes (more prints the one line `9 0 0 0`, with tabs, and does nothing else)"
+abbrev pub too_long : List ℕ → Bool
+too_long input = ltb 65536 (length input)
 
 -- "Each output line ends in byte 10": the line that tells some numbers
 abbrev pub line_of : List ℕ → List ℕ
@@ -42,21 +44,21 @@ abbrev pub room : List ℕ
 room = replicate 112 0
 
 -- "Accepted lists are run whole." "put, set, del (..) print answer, steps, line writes, word writes"
-abbrev pub run_whole : List ℕ → Outcome → Performed
-run_whole image made =
+abbrev pub taken : List ℕ → Outcome → Performed
+taken image made =
     performing (cond (eqb made.answer 0) (run_of image made.list made.steps).image image)
     ((made.answer ∷ made.steps ∷ made.lines ∷ made.words ∷ []) ∷ [])
 
 -- "get prints answer and value"
-abbrev pub got : Finding → List (List ℕ)
+abbrev pub got : Told → List (List ℕ)
 got found = (found.answer ∷ found.value ∷ []) ∷ []
 
 -- "list prints key and value of each entry"
-abbrev pub entry_line : Entry → List ℕ
-entry_line e = e.key ∷ e.val ∷ []
+abbrev pub row : Entry → List ℕ
+row e = e.key ∷ e.val ∷ []
 
-abbrev pub entry_lines : List ℕ → List (List ℕ)
-entry_lines image = cond (eqb (answer (listing_table image)) 0) (map entry_line (entries_in image)) []
+abbrev pub rows : List ℕ → List (List ℕ)
+rows image = cond (eqb (answer (listing_table image)) 0) (map row (entries_in image)) []
 
 -- "A refusal tells 0 for every count"
 abbrev pub refused : ℕ → List (List ℕ)
@@ -64,9 +66,9 @@ refused n = (n ∷ 0 ∷ 0 ∷ 0 ∷ []) ∷ []
 
 -- 9: "bench program: line malformed"
 unfoldable pub performed : Command → List ℕ → Performed
-performed (Put k v) image = run_whole image (make_of (put k v) image room)
-performed (Set k v) image = run_whole image (make_of (set k v) image room)
-performed (Del k) image = run_whole image (make_of (del k) image room)
+performed (Put k v) image = taken image (put_of image room k v)
+performed (Set k v) image = taken image (set_of image room k v)
+performed (Del k) image = taken image (del_of image room k)
 performed (Get k) image = performing image (got (find_of image k))
-performed Listing image = performing image (entry_lines image)
+performed Listing image = performing image (rows image)
 performed Malformed image = performing image (refused 9)

@@ -2,12 +2,12 @@
 ghost use Rattle.std.specs.Prelude.{◌+◌, ◌*◌, ◌≤◌, [], ◌∷◌, ◌++◌, length};
 ghost use Rattle.number.specs.Decimal.{decimal};
 ghost use Rattle.perform.specs.Perform.{line_of, text_of, Written};
-ghost use Rattle.perform.specs.proved.Printing.{BytesStored, number_and, rows_to, Counts};
+ghost use Rattle.perform.specs.Printing.{Stored, marked, rows_to, Counts};
 
 // Writes a number from a place on, and tells the place behind it: the digits of n / 10 first, then the last one.
 fn write_number(buf: &mut [u8], at: usize, n: u64) -> usize
     requires { at + length (decimal n) ≤ length buf.old }
-    ensures { BytesStored buf.old at (decimal n) buf.new result }
+    ensures { Stored buf.old at (decimal n) buf.new result }
 {
     if n < 10 {
         buf[at] = (48 + n) as u8;
@@ -21,7 +21,7 @@ fn write_number(buf: &mut [u8], at: usize, n: u64) -> usize
 // Writes a number and the byte behind it, a tab or a line end.
 fn write_field(buf: &mut [u8], at: usize, n: u64, mark: u8) -> usize
     requires { at + 21 ≤ length buf.old }
-    ensures { BytesStored buf.old at (number_and n mark) buf.new result }
+    ensures { Stored buf.old at (marked n mark) buf.new result }
 {
     let end = write_number(buf, at, n);
     buf[end] = mark;
@@ -31,7 +31,7 @@ fn write_field(buf: &mut [u8], at: usize, n: u64, mark: u8) -> usize
 // Writes two numbers with a tab between them, and the byte behind them.
 fn write_pair(buf: &mut [u8], at: usize, a: u64, b: u64, mark: u8) -> usize
     requires { at + 42 ≤ length buf.old }
-    ensures { BytesStored buf.old at (number_and a 9 ++ number_and b mark) buf.new result }
+    ensures { Stored buf.old at (marked a 9 ++ marked b mark) buf.new result }
 {
     let second = write_field(buf, at, a, b'\t');
     write_field(buf, second, b, mark)

@@ -1,11 +1,10 @@
 // Put, set and del: the list made is run whole, and the counts are told.
 ghost use Rattle.std.specs.Prelude.{◌≡◌, cond, eqb};
 ghost use Rattle.machine.specs.Taking.{run_of};
-ghost use Rattle.writing.specs.Writing.{make_of};
-ghost use Rattle.writing.specs.Making as change;
-ghost use Rattle.promises.specs.Outside.{hut_made};
-ghost use Rattle.perform.specs.Perform.{Done, room, run_whole};
-ghost use Rattle.perform.specs.proved.Printing.{Counts};
+ghost use Rattle.writing.specs.Writing.{put_of, set_of, del_of};
+ghost use Rattle.board.specs.Told.{made_is};
+ghost use Rattle.perform.specs.Perform.{Done, room, taken};
+ghost use Rattle.perform.specs.Printing.{Counts};
 
 use crate::ROOM;
 use crate::answer::answer_line;
@@ -25,7 +24,8 @@ fn run_accepted(image: &mut [u8], list: &[u64], answer: u64, steps: u64)
 }
 
 fn take(image: &mut [u8], list: &[u64], made: HutMade, out: &mut [u8; ROOM]) -> usize
-    ensures done { Done (run_whole image.old (hut_made made list.now)) image.new out.old out.new result }
+    ensures done { Done (taken image.old (made_is made.answer made.steps made.line_writes made.word_writes
+        list.now)) image.new out.old out.new result }
     ensures counts { Counts result out.new }
 {
     run_accepted(image, list, made.answer, made.steps);
@@ -39,7 +39,7 @@ fn take(image: &mut [u8], list: &[u64], made: HutMade, out: &mut [u8; ROOM]) -> 
 }
 
 pub fn do_put(image: &mut [u8], key: u64, value: u64, out: &mut [u8; ROOM]) -> usize
-    ensures done { Done (run_whole image.old (make_of (change.put key value) image.old room)) image.new
+    ensures done { Done (taken image.old (put_of image.old room key value)) image.new
         out.old out.new result }
     ensures counts { Counts result out.new }
 {
@@ -49,7 +49,7 @@ pub fn do_put(image: &mut [u8], key: u64, value: u64, out: &mut [u8; ROOM]) -> u
 }
 
 pub fn do_set(image: &mut [u8], key: u64, value: u64, out: &mut [u8; ROOM]) -> usize
-    ensures done { Done (run_whole image.old (make_of (change.set key value) image.old room)) image.new
+    ensures done { Done (taken image.old (set_of image.old room key value)) image.new
         out.old out.new result }
     ensures counts { Counts result out.new }
 {
@@ -59,7 +59,7 @@ pub fn do_set(image: &mut [u8], key: u64, value: u64, out: &mut [u8; ROOM]) -> u
 }
 
 pub fn do_del(image: &mut [u8], key: u64, out: &mut [u8; ROOM]) -> usize
-    ensures done { Done (run_whole image.old (make_of (change.del key) image.old room)) image.new
+    ensures done { Done (taken image.old (del_of image.old room key)) image.new
         out.old out.new result }
     ensures counts { Counts result out.new }
 {

@@ -1,11 +1,13 @@
 // The bench program's commands done on its image of 4 blocks: each gives the bytes that it prints.
+#![tactic(auto)]
+
 mod answer;
 mod change;
 mod reading;
 
 ghost use Rattle.std.specs.Prelude.{◌≡◌};
-ghost use Rattle.perform.specs.proved.Printing.{too_long, Counts};
-ghost use Rattle.perform.specs.Perform.{text_of, Written, refused, performed, Done};
+ghost use Rattle.perform.specs.Perform.{too_long, text_of, Written, refused, performed, Done};
+ghost use Rattle.perform.specs.Printing.{Counts};
 
 use answer::answer_line;
 use change::{do_del, do_put, do_set};

@@ -1,7 +1,7 @@
 // Get and list.
 ghost use Rattle.index.specs.Reading.{find_of};
-ghost use Rattle.perform.specs.Perform.{text_of, Written, got, entry_lines};
-ghost use Rattle.perform.specs.proved.Printing.{Counts};
+ghost use Rattle.perform.specs.Perform.{text_of, Written, got, rows};
+ghost use Rattle.perform.specs.Printing.{Counts};
 
 use crate::ROOM;
 use crate::answer::{pair_line, pair_lines};
@@ -17,7 +17,7 @@ pub fn do_get(image: &[u8], key: u64, out: &mut [u8; ROOM]) -> usize
 
 // 4 blocks hold at most 56 entries.
 pub fn do_list(image: &[u8; 1024], out: &mut [u8; ROOM]) -> usize
-    ensures written { Written out.old (text_of (entry_lines image.now)) out.new result }
+    ensures written { Written out.old (text_of (rows image.now)) out.new result }
     ensures counts { Counts result out.new }
 {
     let mut keys = [0u64; 56];

@@ -1,9 +1,9 @@
 // The put into a full leaf: the split, and where the new key is below the smallest moved one, the plain put behind it.
 ghost use Rattle.std.specs.Prelude.{◌≡◌, ◌≤◌, ◌<◌, length};
-ghost use Rattle.header.specs.proved.HeaderCode.{bits_of, head_at};
-ghost use Rattle.leaf.specs.proved.LeafLaws.{leaf_in, Right};
+ghost use Rattle.header.specs.Header.{bits_of, head_at};
+ghost use Rattle.leaf.specs.Leaf.{leaf_in, Right};
 ghost use Rattle.leaf.specs.Search.{count};
-ghost use Rattle.split.specs.proved.Full.{FullPut};
+ghost use Rattle.split.specs.Full.{FullPut};
 
 use crate::heads::old_head;
 use crate::write::write_split;

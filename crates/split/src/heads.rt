@@ -1,8 +1,7 @@
 // The headers of a split's two leaves. The moved slots are all below 14.
 ghost use Rattle.std.specs.Prelude.{◌≡◌, ℕ, ◌≤◌, ◌<◌, length, get_or};
-ghost use Rattle.header.specs.proved.HeaderCode.{bits_of};
-ghost use Rattle.header.specs.Header.{flipped, cleared_all};
-ghost use Rattle.leaf.specs.proved.LeafLaws.{leaf_in};
+ghost use Rattle.header.specs.Header.{bits_of, flipped, cleared_all};
+ghost use Rattle.leaf.specs.Leaf.{leaf_in};
 ghost use Rattle.lists.specs.FullLists.{marked_from, new_header};
 
 use header::{Header, fingerprint_of};

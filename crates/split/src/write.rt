@@ -1,15 +1,13 @@
 // The steps of a split, each at its place in the list: 32 stores of the new leaf, the link, the write-backs, the switch.
 ghost use Rattle.std.specs.Prelude.{◌≡◌, cond, [], ◌∷◌, ◌++◌, ℕ, ◌+◌, ◌*◌, ◌≤◌, ◌<◌, length, get_or, replicate};
-ghost use Rattle.header.specs.proved.HeaderCode.{bits_of, head_at};
-ghost use Rattle.header.specs.Header.{flipped, cleared_all};
-ghost use Rattle.leaf.specs.proved.LeafLaws.{leaf_in};
-ghost use Rattle.leaf.specs.Leaf.{view};
+ghost use Rattle.header.specs.Header.{bits_of, head_at, flipped, cleared_all};
+ghost use Rattle.leaf.specs.Leaf.{leaf_in, view};
 ghost use Rattle.steps.specs.declared.Step.TheVariants.{Fence as fence};
 ghost use Rattle.steps.specs.Encoding.{written};
-ghost use Rattle.steps.specs.Shapes.{stores_from};
+ghost use Rattle.steps.specs.Stores.{stores_from};
 ghost use Rattle.lists.specs.Lists.{word_place, low_word, high_word, head_in};
 ghost use Rattle.lists.specs.FullLists.{moved_slots, goes_up, entry_words, new_words, split_backs, split_list};
-ghost use Rattle.emit.specs.proved.Appended.{appended};
+ghost use Rattle.emit.specs.Appended.{appended};
 
 use crate::heads::new_head;
 use emit::head::{word0, word1};

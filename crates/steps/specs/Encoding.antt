@@ -1,7 +1,8 @@
--- How a list holds its steps: "In a list each takes two 64-bit words."
-use Rattle.std.specs.Prelude.{ℕ, ◌+◌, ◌-◌, ◌*◌, ◌/◌, Bool, true, cond, List, [], ◌∷◌, ◌++◌, length, get_or, drop, ltb, eqb}
+-- How a list holds its steps: document 01's first paragraph on steps. To be believed.
+-- "In a list each takes two 64-bit words."
+use Rattle.std.specs.Prelude.{ℕ, ◌+◌, ◌-◌, ◌*◌, ◌/◌, Bool, true, cond, List, [], ◌∷◌, ◌++◌, length, get_or, set, drop, ltb, eqb}
 use Rattle.words.specs.Bools.{both}
-use Rattle.steps.specs.Model.{Step, store, writeBack, fence, Steps, land}
+use Rattle.steps.specs.Model.{Step, store, writeBack, fence, Steps}
 
 -- "A store has the byte place (..) and the value; a write-back has 2^32 plus the number of a line (..), and 0; a fence has
 -- 2^33 and 0."
@@ -51,8 +52,6 @@ encode (x ∷ l) = first x ∷ second x ∷ encode l
 unfoldable pub written : List Step → List ℕ → List ℕ
 written l old = encode l ++ drop (2 * length l) old
 
--- a whole list run from its head
-module _ {M : Type 0} (write : M → ℕ → ℕ → M) where
-  abbrev pub run_all : List Step → M → M
-  run_all [] m = m
-  run_all (x ∷ l) m = run_all l (land write true x m)
+-- a list of words with step i written in it
+abbrev pub put_step : List ℕ → ℕ → Step → List ℕ
+put_step list i x = set (set list (2 * i) (first x)) (2 * i + 1) (second x)

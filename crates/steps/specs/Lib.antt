@@ -1,6 +1,15 @@
--- The memory model, steps as words, the shapes of lists, refusals as data.
+pub mod Indices
 pub mod Model
+pub mod Settling
+pub mod Section
+pub mod Concatenation
 pub mod Encoding
+pub mod Lists
+pub mod EncodingLaws
 pub mod Shapes
+pub mod Stores
+pub mod Rules
+pub mod LastFence
+pub mod Views
 pub mod Refusals
-pub mod proved
+pub mod Cases

@@ -1,7 +1,9 @@
--- The memory model: document 01's section "Steps", sentence by sentence.
--- `s i` is step i, and "the first n steps" are those below n. A memory is any type with a store of a word. Two things are
--- parameters: `unit`, the words whose stores arrive in order (here those of a line), and `rule`, when a store is settled.
-use Rattle.std.specs.Prelude.{ℕ, zero, suc, ◌≤◌, ◌/◌, Bool, true, false, cond, List, ltb, eqb, get_or}
+-- The memory model: document 01's section "Steps", sentence by sentence. To be believed.
+-- Steps are given by index: `s i` is step i, and "the first n steps" are those below n. A memory is any type with a
+-- store of a word. Two things are parameters, since later modes change them and nothing else. `unit` gives the ordering
+-- unit of a word, whose stores arrive in order: it is the word's line here. `rule` is what a store, a write-back and a
+-- fence have to do with each other for the store to be settled.
+use Rattle.std.specs.Prelude.{ℕ, zero, suc, ◌≤◌, ◌/◌, Bool, true, false, cond, ltb, eqb}
 use Rattle.words.specs.Bools.{both}
 use Rattle.words.specs.Below.{any_below, count_below}
 pub use Rattle.steps.specs.declared.Step.{Step}
@@ -59,10 +61,6 @@ module _ {M : Type 0} (write : M → ℕ → ℕ → M) where
   abbrev pub cut : (ℕ → ℕ) → Steps → (ℕ → ℕ) → M → ℕ → M
   cut unit s a m zero = m
   cut unit s a m (suc n) = land write (arrives unit a (made unit s n) (s n)) (s n) (cut unit s a m n)
-
--- those numbers, line by line, in a list
-abbrev pub arrived : List ℕ → ℕ → ℕ
-arrived arrivals l = get_or arrivals l 0
 
 -- "A store is settled once its line has had a write-back among the steps taken and a fence has come after both the store
 -- and that write-back." The store is at i, to the line l; the fence is at k, one of the n steps taken; the write-back is

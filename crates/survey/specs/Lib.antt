@@ -1,2 +1,5 @@
--- The walk along the chain, as the code makes it.
-pub mod proved
+-- The walk as a function of the leaves: Marks (the blocks met), Walk (the state, a leaf judged, the whole walk). Proved of it: Turns,
+-- which the code cites.
+pub mod Marks
+pub mod Walk
+pub mod Turns

@@ -1,8 +1,7 @@
 // The way along the chain of an image that the walk found sound.
 ghost use Rattle.std.specs.Prelude.{◌≡◌, ◌+◌, ◌*◌, ◌≤◌, length};
 ghost use Rattle.words.specs.Words.{reads};
-ghost use Rattle.leaf.specs.proved.LeafLaws.{leaf_in};
-ghost use Rattle.leaf.specs.Leaf.{view};
+ghost use Rattle.leaf.specs.Leaf.{leaf_in, view};
 
 use header::Header;
 use leaf::place::Leaf;

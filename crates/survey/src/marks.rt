@@ -1,9 +1,8 @@
 // A set of block numbers, one bit for each, in four words.
 ghost use Rattle.std.specs.Prelude.{◌≡◌, not, ◌≤◌, ◌<◌, length};
-ghost use Rattle.words.specs.proved.First.{FirstBelow};
 ghost use Rattle.header.specs.Fields.{patched};
 ghost use Rattle.leaf.specs.Search.{lowest};
-ghost use Rattle.survey.specs.proved.Marks.{words_in, blocks_in, is_in};
+ghost use Rattle.survey.specs.Marks.{words_in, blocks_in, is_in, FirstOut};
 
 use header::bits::{get, lowest_zero};
 use leaf::search::Slot;
@@ -49,7 +48,7 @@ impl Marks {
 
     // The lowest block that is not in the set; 256 where each is.
     fn first_out(self) -> usize
-        ensures { FirstBelow (λ b. not (is_in (blocks_in self) b)) 256 result }
+        ensures { FirstOut (blocks_in self) result }
     {
         let a = lowest_zero(self.a);
         if a < 64 {

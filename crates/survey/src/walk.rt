@@ -2,15 +2,13 @@
 ghost use Rattle.std.specs.Prelude.{◌≡◌, not, cond, List, ℕ, ◌+◌, ◌*◌, ◌/◌, ◌≤◌, ◌<◌, eqb, length, set};
 ghost use Rattle.words.specs.Words.{reads};
 ghost use Rattle.words.specs.Bools.{both};
-ghost use Rattle.header.specs.proved.HeaderCode.{head_at, bits_of};
-ghost use Rattle.leaf.specs.proved.LeafLaws.{leaf_in};
-ghost use Rattle.leaf.specs.Leaf.{view};
+ghost use Rattle.header.specs.Header.{head_at, bits_of};
+ghost use Rattle.leaf.specs.Leaf.{leaf_in, view};
 ghost use Rattle.leaf.specs.Search.{smallest_of};
-ghost use Rattle.leaf.specs.proved.Tally.{twins};
-ghost use Rattle.leaf.specs.proved.TallySteps.{Hits};
-ghost use Rattle.survey.specs.proved.Marks.{words_in, is_in};
-ghost use Rattle.survey.specs.proved.Walk.{state_of, state_in, stopped, moved, fault_by, reached_by, smallest_by, judged, start};
-ghost use Rattle.survey.specs.proved.Walk.{surveyed, Noted};
+ghost use Rattle.leaf.specs.Tally.{twins};
+ghost use Rattle.leaf.specs.TallySteps.{Hits};
+ghost use Rattle.survey.specs.Marks.{words_in, is_in};
+ghost use Rattle.survey.specs.Walk.{state_of, state_in, stopped, moved, fault_by, reached_by, smallest_by, judged, start, surveyed, Noted};
 
 use crate::marks::{Marks, has, mark};
 use header::Header;

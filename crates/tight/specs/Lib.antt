@@ -1,2 +1,2 @@
--- A run for which demand 3 is not loose.
-pub mod proved
+-- To believe: of Tight the two theorems at its end, over the runs of demands/specs/Demand3.
+pub mod Tight

@@ -1,3 +1,5 @@
--- The target leaf of a key, and that the survey is right.
+-- The survey says "sound" exactly when the image is, and its notes are right.
+pub mod Passed
 pub mod Place
-pub mod proved
+pub mod Notes
+pub mod Verdict

@@ -1,8 +1,8 @@
--- Where a key belongs in a chain, as functions: the calls' contracts name them.
+-- Where a key belongs in a chain, as functions: the calls' contracts name them. To be believed.
 use Rattle.std.specs.Prelude.{Bool, cond, not, List, [], ◌∷◌, ℕ, eqb}
 use Rattle.words.specs.Below.{count_below}
 use Rattle.leaf.specs.Leaf.{Leaf}
-use Rattle.leaf.specs.Search.{at_most}
+use Rattle.leaf.specs.Tally.{at_most}
 
 -- "whose smallest key is at most that key": some key of the leaf is
 abbrev pub reaches_to : Leaf → ℕ → Bool

@@ -1,5 +1,8 @@
--- Eight bytes as a word, tests, and questions about the numbers below n.
+-- To believe: Words, and Below (at one number below n, and at how many). Proved of them: WordLaws, BelowLaws. Update is a store in
+-- a memory that is read by index; Bools goes by a test's value.
 pub mod Words
+pub mod Update
 pub mod Bools
 pub mod Below
-pub mod proved
+pub mod WordLaws
+pub mod BelowLaws

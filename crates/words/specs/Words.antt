@@ -1,5 +1,5 @@
 -- "Numbers are little-endian. A leaf has 32 words of 8 bytes": words in a list of bytes, the lowest byte first.
-use Rattle.std.specs.Prelude.{ℕ, zero, suc, ◌+◌, ◌*◌, ◌/◌, ◌%◌, ◌^◌, ◌<◌, List, [], ◌∷◌, cond, eqb, get_or, set}
+use Rattle.std.specs.Prelude.{ℕ, zero, suc, ◌+◌, ◌*◌, ◌/◌, ◌%◌, ◌^◌, List, [], ◌∷◌, get_or, set}
 
 -- the number in the two, the four and the eight bytes at a place
 abbrev pub pair_at : List ℕ → ℕ → ℕ
@@ -36,11 +36,3 @@ reads l i = word_at l (8 * i)
 -- and a store of its word p
 abbrev pub store_word : List ℕ → ℕ → ℕ → List ℕ
 store_word l p v = store_at l (8 * p) v
-
--- a function changed at one number: a store, where a memory is read by index
-abbrev pub upd : {A : Type 0} → (ℕ → A) → ℕ → A → ℕ → A
-upd f i x j = cond (eqb j i) x (f j)
-
--- each element of a list is a byte
-abbrev pub Bytes : List ℕ → Type 0
-Bytes l = (i : ℕ) → get_or l i 0 < 256

@@ -1,4 +1,6 @@
 // Eight bytes of a slice, read and stored as one little-endian word.
+#![tactic(auto)]
+
 ghost use Rattle.std.specs.Prelude.{◌≡◌, ◌+◌, ◌≤◌, ◌<◌, length, get_or};
 ghost use Rattle.words.specs.Words.{pair_at, four_at, word_at, store_at};
 

@@ -1,4 +1,7 @@
--- What put, set and del answer and make.
-pub mod Making
+-- To believe: Writing (what put, set and del answer and make). Proved of it: the others.
 pub mod Writing
-pub mod proved
+pub mod BlockLaws
+pub mod ChangeLaws
+pub mod PutLaws
+pub mod PutCounts
+pub mod FullLaws

@@ -1,8 +1,9 @@
--- What put, set and del answer and what they leave of the list, for all inputs. This is their whole contract.
+-- What put, set and del answer and what they leave of the list, for all inputs. To be believed: this is their whole contract.
 use Rattle.std.specs.Prelude.{Bool, true, false, cond, not, List, [], ◌∷◌, ℕ, ltb, eqb, length}
+use Rattle.words.specs.Words.{reads}
 use Rattle.words.specs.Bools.{both}
 use Rattle.leaf.specs.Leaf.{Leaf}
-use Rattle.leaf.specs.Search.{count}
+use Rattle.leaf.specs.Search.{lowest, slot_of, count}
 use Rattle.leaf.specs.declared.search.Slot.{Slot}
 use Rattle.leaf.specs.declared.search.Slot.TheVariants.{At, Missing}
 use Rattle.steps.specs.Refusals.{answer, bad_image}
@@ -10,12 +11,34 @@ use Rattle.steps.specs.declared.Step.{Step}
 use Rattle.steps.specs.Model.{line_writes, word_writes}
 use Rattle.steps.specs.Encoding.{steps_of, written}
 use Rattle.image.specs.Map.{lookup}
-use Rattle.image.specs.Image.{leaves}
-use Rattle.index.specs.Reading.{is_sound, is_none}
-use Rattle.index.specs.Held.{entries_in}
+use Rattle.image.specs.Image.{blocks, leaves}
+use Rattle.verdict.specs.Place.{target_from, before_from}
+use Rattle.index.specs.Reading.{is_sound, chain_of, entries_in, is_none}
+use Rattle.lists.specs.Lists.{set_list, del_list}
+use Rattle.lists.specs.FullLists.{put_list}
 use Rattle.writing.specs.declared.Made.{Made}
 use Rattle.writing.specs.declared.Made.TheVariants.{Steps, BadImage, ShortList, Unsound, Present, Absent, Full}
-use Rattle.writing.specs.Making.{target_of, free_of, Change, put, set, del, steps_for}
+
+-- ---- where a key belongs
+
+-- "The target leaf of a key is the last chained leaf whose smallest key is at most that key; if there is none, block 0"
+abbrev pub target_of : List ℕ → ℕ → ℕ
+target_of l k = target_from (leaves l) k 0 (chain_of l)
+
+-- "the leaf before it"
+abbrev pub before_of : List ℕ → ℕ → ℕ
+before_of l k = before_from (leaves l) k 0 0 (chain_of l)
+
+abbrev pub place_of : List ℕ → ℕ → Slot
+place_of l k = slot_of (leaves l (target_of l k)) k
+
+-- "take the lowest block not in the chain"
+abbrev pub is_among : ℕ → List ℕ → Bool
+is_among b [] = false
+is_among b (c ∷ cs) = cond (eqb c b) true (is_among b cs)
+
+abbrev pub free_of : List ℕ → Slot
+free_of l = lowest (λ b. not (is_among b (chain_of l))) (blocks l) 0
 
 -- ---- what a call tells and leaves
 
@@ -47,9 +70,28 @@ made_as Present list = record { answer = 4; steps = 0; lines = 0; words = 0; lis
 made_as Absent list = record { answer = 5; steps = 0; lines = 0; words = 0; list = list }
 made_as Full list = record { answer = 6; steps = 0; lines = 0; words = 0; list = list }
 
--- ---- the calls
+-- ---- the calls. "Order: 1, 2, 8, 3, 4, 5, 6 as they apply"
 
--- 6: "put: target full and all N blocks chained"
+-- 2: "put, set, del: list room under 112 words"
+abbrev pub short_list : List ℕ → Bool
+short_list list = ltb (length list) 112
+
+-- 5: "find, set, del: key absent"
+abbrev pub change_table : List ℕ → List ℕ → ℕ → List (ℕ × Bool)
+change_table l list k = (1, bad_image (length l)) ∷ (2, short_list list) ∷ (3, not (is_sound l)) ∷ (5, is_none (lookup k (entries_in l))) ∷ []
+
+abbrev pub at_slot : Slot → (ℕ → List Step) → List Step
+at_slot (At s) f = f s
+at_slot Missing f = []
+
+unfoldable pub set_of : List ℕ → List ℕ → ℕ → ℕ → Outcome
+set_of l list k v = outcome (answer (change_table l list k)) (at_slot (place_of l k) (λ s. set_list (target_of l k) s v)) list
+
+unfoldable pub del_of : List ℕ → List ℕ → ℕ → Outcome
+del_of l list k =
+    outcome (answer (change_table l list k)) (at_slot (place_of l k) (λ s. del_list (reads l) (before_of l k) (target_of l k) s)) list
+
+-- 4: "put: key present"; 6: "put: target full and all N blocks chained"
 abbrev pub is_missing : Slot → Bool
 is_missing (At s) = false
 is_missing Missing = true
@@ -57,20 +99,15 @@ is_missing Missing = true
 abbrev pub is_full : Leaf → Bool
 is_full L = eqb (count L) L.size
 
--- a call's own refusals. 4: "put: key present"; 5: "find, set, del: key absent"
-abbrev pub own_rows : Change → List ℕ → List (ℕ × Bool)
-own_rows (put k v) l =
-    (4, not (is_none (lookup k (entries_in l)))) ∷ (6, both (is_full (leaves l (target_of l k))) (is_missing (free_of l))) ∷ []
-own_rows (set k v) l = (5, is_none (lookup k (entries_in l))) ∷ []
-own_rows (del k) l = (5, is_none (lookup k (entries_in l))) ∷ []
+abbrev pub put_table : List ℕ → List ℕ → ℕ → List (ℕ × Bool)
+put_table l list k =
+    (1, bad_image (length l)) ∷ (2, short_list list) ∷ (3, not (is_sound l)) ∷ (4, not (is_none (lookup k (entries_in l))))
+    ∷ (6, both (is_full (leaves l (target_of l k))) (is_missing (free_of l))) ∷ []
 
--- 2: "put, set, del: list room under 112 words"
-abbrev pub short_list : List ℕ → Bool
-short_list list = ltb (length list) 112
+-- the free block, where one is needed
+abbrev pub block_or0 : Slot → ℕ
+block_or0 (At c) = c
+block_or0 Missing = 0
 
--- "Order: 1, 2, 8, 3, 4, 5, 6 as they apply"
-abbrev pub make_table : Change → List ℕ → List ℕ → List (ℕ × Bool)
-make_table c l list = (1, bad_image (length l)) ∷ (2, short_list list) ∷ (3, not (is_sound l)) ∷ own_rows c l
-
-unfoldable pub make_of : Change → List ℕ → List ℕ → Outcome
-make_of c l list = outcome (answer (make_table c l list)) (steps_for c l) list
+unfoldable pub put_of : List ℕ → List ℕ → ℕ → ℕ → Outcome
+put_of l list k v = outcome (answer (put_table l list k)) (put_list (reads l) (target_of l k) (block_or0 (free_of l)) k v) list

@@ -1,9 +1,8 @@
 // One block of an image: its header and the slot of a key.
 ghost use Rattle.std.specs.Prelude.{◌≡◌, ◌+◌, ◌*◌, ◌≤◌, length};
 ghost use Rattle.words.specs.Words.{reads};
-ghost use Rattle.header.specs.proved.HeaderCode.{bits_of};
-ghost use Rattle.leaf.specs.Search.{slot_of};
-ghost use Rattle.leaf.specs.proved.SearchLaws.{Within};
+ghost use Rattle.header.specs.Header.{bits_of};
+ghost use Rattle.leaf.specs.Search.{slot_of, Within};
 ghost use Rattle.image.specs.Image.{leaves};
 ghost use Rattle.lists.specs.Lists.{head_in};
 

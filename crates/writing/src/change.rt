@@ -6,9 +6,8 @@ ghost use Rattle.leaf.specs.Search.{slot_of};
 ghost use Rattle.steps.specs.Encoding.{written};
 ghost use Rattle.image.specs.Image.{leaves};
 ghost use Rattle.lists.specs.Lists.{set_list, del_list};
-ghost use Rattle.writing.specs.Writing.{made_as, make_of};
-ghost use Rattle.writing.specs.Making as change;
-ghost use Rattle.writing.specs.proved.ChangeLaws.{by_slot, three_steps};
+ghost use Rattle.writing.specs.Writing.{made_as, set_of, del_of};
+ghost use Rattle.writing.specs.ChangeLaws.{by_slot, three_steps};
 
 use crate::Made;
 use crate::block::{head_in, slot_in};
@@ -47,7 +46,7 @@ fn set_in(image: &[u8], block: u64, list: &mut [u64], key: u64, value: u64) -> M
 }
 
 pub fn set(image: &[u8], list: &mut [u64], key: u64, value: u64) -> Made
-    ensures { made_as result list.new ≡ make_of (change.set key value) image.now list.old }
+    ensures { made_as result list.new ≡ set_of image.now list.old key value }
 {
     if bad_image(image.len() as u64) {
         return Made::BadImage;
@@ -94,7 +93,7 @@ fn del_in(image: &[u8], before: u64, block: u64, list: &mut [u64], key: u64) -> 
 }
 
 pub fn del(image: &[u8], list: &mut [u64], key: u64) -> Made
-    ensures { made_as result list.new ≡ make_of (change.del key) image.now list.old }
+    ensures { made_as result list.new ≡ del_of image.now list.old key }
 {
     if bad_image(image.len() as u64) {
         return Made::BadImage;

@@ -1,4 +1,6 @@
 // The calls that make lists of steps.
+#![tactic(auto)]
+
 mod block;
 pub mod change;
 pub mod put;

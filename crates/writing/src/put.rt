@@ -1,19 +1,17 @@
 // Put: a plain one into a leaf that has room, or a split.
 ghost use Rattle.std.specs.Prelude.{◌≡◌, ◌≢◌, ◌+◌, ◌*◌, ◌≤◌, ◌<◌, length, true, not};
 ghost use Rattle.words.specs.Words.{reads};
-ghost use Rattle.header.specs.proved.HeaderCode.{bits_of};
+ghost use Rattle.header.specs.Header.{bits_of};
 ghost use Rattle.image.specs.Image.{blocks, leaves};
-ghost use Rattle.leaf.specs.proved.LeafLaws.{Right};
-ghost use Rattle.leaf.specs.Leaf.{occ_in};
+ghost use Rattle.leaf.specs.Leaf.{Right, occ_in};
 ghost use Rattle.leaf.specs.Search.{count, lowest, lowest_vacant, slot_of};
 ghost use Rattle.leaf.specs.declared.search.Slot.TheVariants.{Missing};
-ghost use Rattle.survey.specs.proved.Marks.{blocks_in, is_in};
+ghost use Rattle.survey.specs.Marks.{blocks_in, is_in};
 ghost use Rattle.lists.specs.Lists.{head_in, put_at};
 ghost use Rattle.lists.specs.FullLists.{full_put};
-ghost use Rattle.writing.specs.Writing.{outcome, made_as, make_of};
-ghost use Rattle.writing.specs.Making as change;
-ghost use Rattle.writing.specs.proved.PutLaws.{put_by};
-ghost use Rattle.writing.specs.proved.PutCounts.{plain_lines, plain_made, full_lines, full_made};
+ghost use Rattle.writing.specs.Writing.{outcome, made_as, put_of};
+ghost use Rattle.writing.specs.PutLaws.{put_by};
+ghost use Rattle.writing.specs.PutCounts.{plain_lines, plain_made, full_lines, full_made};
 
 use crate::Made;
 use crate::block::{head_in, slot_in};
@@ -163,7 +161,7 @@ fn put_in(image: &[u8], block: u64, met: Marks, list: &mut [u64], key: u64, valu
 }
 
 pub fn put(image: &[u8], list: &mut [u64], key: u64, value: u64) -> Made
-    ensures { made_as result list.new ≡ make_of (change.put key value) image.now list.old }
+    ensures { made_as result list.new ≡ put_of image.now list.old key value }
 {
     if bad_image(image.len() as u64) {
         return Made::BadImage;

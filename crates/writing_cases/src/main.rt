@@ -1,5 +1,7 @@
 // Put, set and del on document 01's cases, each list run where there is one. A line has the answer, the steps, the line writes and
 // the word writes, or what a sentence of the file `meaning` says.
+#![tactic(auto)]
+
 use index::find::Found;
 use index::recovery::Recovered;
 use libc::STDOUT_FILENO;

@@ -1,7 +1,7 @@
 -- `command::as_del` meets its contract, arm by arm.
 use mathlib.Core.Path.{sym, ap}
 use borrow.Author.Rules.{rules}
-use Rattle.command.specs.proved.LineParts.{as_del}
+use Rattle.command.specs.Reading.{as_del}
 use Rattle.command.proofs.as_del.Statement.{statement}
 use Rattle.command.proofs.as_del.Tie as tie
 

@@ -1,7 +1,7 @@
 -- `command::as_get` meets its contract, arm by arm.
 use mathlib.Core.Path.{sym, ap}
 use borrow.Author.Rules.{rules}
-use Rattle.command.specs.proved.LineParts.{as_get}
+use Rattle.command.specs.Reading.{as_get}
 use Rattle.command.proofs.as_get.Statement.{statement}
 use Rattle.command.proofs.as_get.Tie as tie
 

@@ -1,7 +1,7 @@
 -- `command::as_put` meets its contract, arm by arm.
 use mathlib.Core.Path.{sym, ap}
 use borrow.Author.Rules.{rules}
-use Rattle.command.specs.proved.LineParts.{as_put}
+use Rattle.command.specs.Reading.{as_put}
 use Rattle.command.proofs.as_put.Statement.{statement}
 use Rattle.command.proofs.as_put.Tie as tie
 

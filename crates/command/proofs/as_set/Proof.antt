@@ -1,7 +1,7 @@
 -- `command::as_set` meets its contract, arm by arm.
 use mathlib.Core.Path.{sym, ap}
 use borrow.Author.Rules.{rules}
-use Rattle.command.specs.proved.LineParts.{as_set}
+use Rattle.command.specs.Reading.{as_set}
 use Rattle.command.proofs.as_set.Statement.{statement}
 use Rattle.command.proofs.as_set.Tie as tie
 

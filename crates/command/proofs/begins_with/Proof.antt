@@ -3,8 +3,8 @@ use mathlib.Core.Path.{◌≡◌, refl, sym, ◌∙◌}
 use Prim.Native.Nat.{◌-◌, ◌≤◌}
 use native.Mathlib.Omega.{arith}
 use lib.ListN.{length, drop}
-use Rattle.command.specs.proved.LineParts.{begins}
-use Rattle.command.specs.proved.LineLaws.{begins_same, begins_other, begins_end, begins_short}
+use Rattle.command.specs.Reading.{begins}
+use Rattle.command.specs.ReadingLaws.{begins_same, begins_other, begins_end, begins_short}
 use Rattle.command.proofs.begins_with.Statement.{statement}
 use Rattle.command.proofs.begins_with.Tie as tie
 

@@ -2,8 +2,8 @@
 use mathlib.Core.Path.{sym, ap, ◌∙◌}
 use native.Mathlib.Omega.{arith}
 use borrow.Author.Rules.{rules}
-use Rattle.command.specs.proved.LineParts.{field_of}
-use Rattle.command.specs.proved.LineLaws.{until_within, field_none, field_to}
+use Rattle.command.specs.Reading.{field_of}
+use Rattle.command.specs.ReadingLaws.{until_within, field_none, field_to}
 use Rattle.number.specs.declared.Number.{Number}
 use Rattle.command.proofs.field_at.Statement.{statement}
 use Rattle.command.proofs.field_at.Tie as tie

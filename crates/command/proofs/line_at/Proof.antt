@@ -5,9 +5,8 @@ use native.Mathlib.Omega.{arith}
 use borrow.Author.Rules.{rules}
 use borrow.Author.Tests.{lt-ltb, le-ltb}
 use lib.ListN.{take, drop}
-use Rattle.command.specs.proved.LineParts.{until, past_line}
-use Rattle.command.specs.LineReading.{parse_of, line_at}
-use Rattle.command.specs.proved.LineLaws.{until_within}
+use Rattle.command.specs.Reading.{until, parse_of, past_line, line_at}
+use Rattle.command.specs.ReadingLaws.{until_within}
 use Rattle.command.specs.declared.Next.TheVariants.{Line}
 use Rattle.command.proofs.line_at.Statement.{statement}
 use Rattle.command.proofs.line_at.Tie as tie

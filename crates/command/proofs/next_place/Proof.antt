@@ -3,8 +3,8 @@ use mathlib.Core.Path.{◌≡◌}
 use Prim.Native.Nat.{◌+◌, ◌-◌}
 use native.Mathlib.Omega.{arith}
 use lib.ListN.{length, drop}
-use Rattle.command.specs.proved.LineParts.{until}
-use Rattle.command.specs.proved.LineLaws.{until_hit, until_miss, until_end}
+use Rattle.command.specs.Reading.{until}
+use Rattle.command.specs.ReadingLaws.{until_hit, until_miss, until_end}
 use Rattle.command.proofs.next_place.Statement.{statement}
 use Rattle.command.proofs.next_place.Tie as tie
 

@@ -2,8 +2,7 @@
 use mathlib.Core.Path.{sym, ap, ◌∙◌}
 use borrow.Author.Rules.{rules}
 use borrow.Author.Tests.{eq-eqb, ne_eqb}
-use Rattle.command.specs.proved.LineParts.{as_put, as_set, as_del, as_get}
-use Rattle.command.specs.LineReading.{parse_of}
+use Rattle.command.specs.Reading.{as_put, as_set, as_del, as_get, parse_of}
 use Rattle.command.proofs.parse.Statement.{statement}
 use Rattle.command.proofs.parse.Tie as tie
 

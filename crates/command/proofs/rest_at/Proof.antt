@@ -5,7 +5,7 @@ use native.Mathlib.Omega.{arith}
 use borrow.Author.Rules.{rules}
 use lib.ListN.{length, drop, length-drop, drop_of_length-le}
 use lib.Seq.{take_all}
-use Rattle.number.specs.proved.NumberReading.{spelled_by}
+use Rattle.number.specs.Reading.{spelled_by}
 use Rattle.command.proofs.rest_at.Statement.{statement}
 use Rattle.command.proofs.rest_at.Tie as tie
 

@@ -2,7 +2,7 @@
 use borrow.Author.Rules.{rules}
 use mathlib.Core.Path.{refl, sym, ◌∙◌}
 use lib.ListN.{length}
-use Rattle.machine.specs.proved.Fits.{passed, all_fit, can_be_taken}
+use Rattle.machine.specs.Fits.{passed, all_fit, can_be_taken}
 use Rattle.machine.proofs.cut.Statement.{statement}
 use Rattle.machine.proofs.cut.Tie as tie
 
@@ -11,7 +11,7 @@ bad-arrivals-requires c κs =
     let b = c.before.before.before in
     let a = b.before.before.before.before.args in
     passed (length a.image.now) a.list.now a.n
-    (sym b.bad-image.ensures ∙ c.before.before.if1.false)
+    (sym b.bad_image_lem.ensures ∙ c.before.before.if1.false)
     (sym c.before.bad-list.ensures ∙ c.if2.false)
 
 cut-steps-requires : tie.Need-cut-steps-requires
@@ -20,7 +20,7 @@ cut-steps-requires c κs =
     let b = e.before.before.before in
     let a = b.before.before.before.before.args in
     let P = passed (length a.image.now) a.list.now a.n
-    (sym b.bad-image.ensures ∙ e.before.before.if1.false)
+    (sym b.bad_image_lem.ensures ∙ e.before.before.if1.false)
     (sym e.before.bad-list.ensures ∙ e.if2.false) in
     (can_be_taken (length a.image.now) a.list.now a.n P, all_fit (length a.image.now) a.list.now a.n P)
 
@@ -29,17 +29,17 @@ cut_spec =
     tie.close
     (tie.spec
     (λ c κs. search rules)
-    (λ c. rw (sym c.before.bad-image.ensures ∙ c.if1.true) (refl, refl))
+    (λ c. rw (sym c.before.bad_image_lem.ensures ∙ c.if1.true) (refl, refl))
     (λ c κs. search rules)
     (λ c. rw (
-      sym c.before.before.before.bad-image.ensures ∙ c.before.before.if1.false,
+      sym c.before.before.before.bad_image_lem.ensures ∙ c.before.before.if1.false,
       sym c.before.bad-list.ensures ∙ c.if2.true,
     ) (refl, refl))
     bad-arrivals-requires
     (λ c.
     let e = c.before.before in
     rw (
-      sym e.before.before.before.bad-image.ensures ∙ e.before.before.if1.false,
+      sym e.before.before.before.bad_image_lem.ensures ∙ e.before.before.if1.false,
       sym e.before.bad-list.ensures ∙ e.if2.false,
       sym c.before.bad-arrivals.ensures ∙ c.if3.true,
     ) (refl, refl))
@@ -49,7 +49,7 @@ cut_spec =
     let f = c.before.before.before.before in
     let e = f.before.before in
     rw (
-      sym e.before.before.before.bad-image.ensures ∙ e.before.before.if1.false,
+      sym e.before.before.before.bad_image_lem.ensures ∙ e.before.before.if1.false,
       sym e.before.bad-list.ensures ∙ e.if2.false,
       sym f.before.bad-arrivals.ensures ∙ f.if3.false,
     ) (refl, c.before.before.cut-steps.ensures)))

@@ -2,7 +2,7 @@
 use borrow.Author.Rules.{rules}
 use mathlib.Core.Path.{refl, sym, ◌∙◌}
 use lib.ListN.{length}
-use Rattle.machine.specs.proved.Fits.{passed, all_fit}
+use Rattle.machine.specs.Fits.{passed, all_fit}
 use Rattle.machine.proofs.run.Statement.{statement}
 use Rattle.machine.proofs.run.Tie as tie
 
@@ -12,7 +12,7 @@ run-steps-requires c κs =
     let b = e.before.before.before in
     let a = b.before.before.before.args in
     let P = passed (length a.image.now) a.list.now a.n
-    (sym b.bad-image.ensures ∙ e.before.before.if1.false)
+    (sym b.bad_image_lem.ensures ∙ e.before.before.if1.false)
     (sym e.before.bad-list.ensures ∙ e.if2.false) in
     (P.long, all_fit (length a.image.now) a.list.now a.n P)
 
@@ -21,10 +21,10 @@ run_spec =
     tie.close
     (tie.spec
     (λ c κs. search rules)
-    (λ c. rw (sym c.before.bad-image.ensures ∙ c.if1.true) (refl, refl))
+    (λ c. rw (sym c.before.bad_image_lem.ensures ∙ c.if1.true) (refl, refl))
     (λ c κs. search rules)
     (λ c. rw (
-      sym c.before.before.before.bad-image.ensures ∙ c.before.before.if1.false,
+      sym c.before.before.before.bad_image_lem.ensures ∙ c.before.before.if1.false,
       sym c.before.bad-list.ensures ∙ c.if2.true,
     ) (refl, refl))
     run-steps-requires
@@ -32,6 +32,6 @@ run_spec =
     (λ c.
     let e = c.before.before.before.before in
     rw (
-      sym e.before.before.before.bad-image.ensures ∙ e.before.before.if1.false,
+      sym e.before.before.before.bad_image_lem.ensures ∙ e.before.before.if1.false,
       sym e.before.bad-list.ensures ∙ e.if2.false,
     ) (refl, c.before.before.run_steps.ensures)))

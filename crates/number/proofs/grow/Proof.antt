@@ -3,7 +3,7 @@ use borrow.Author.Rules.{rules}
 use borrow.Author.Tests.{eq-eqb, ne_eqb, lt-ltb, le-ltb}
 use Prim.Native.Nat.{◌+◌, ◌*◌}
 use native.Mathlib.Omega.{arith}
-use Rattle.number.specs.proved.NumberReading.{most}
+use Rattle.number.specs.Reading.{most}
 use Rattle.number.proofs.grow.Statement.{statement}
 use Rattle.number.proofs.grow.Tie as tie
 

@@ -1,7 +1,7 @@
 -- `command::number::push` meets its contract, arm by arm.
 use mathlib.Core.Path.{sym, ap, ◌∙◌}
 use borrow.Author.Rules.{rules}
-use Rattle.number.specs.proved.NumberReading.{grown_by, pushed}
+use Rattle.number.specs.Reading.{grown_by, pushed}
 use Rattle.number.specs.declared.Number.{Number}
 use Rattle.number.proofs.push.Statement.{statement}
 use Rattle.number.proofs.push.Tie as tie

@@ -4,8 +4,8 @@ use Prim.Native.Nat.{◌+◌, ◌-◌}
 use native.Mathlib.Omega.{arith}
 use borrow.Author.Rules.{rules}
 use lib.ListN.{length, drop}
-use Rattle.number.specs.proved.NumberReading.{pushed_all, spelled_by}
-use Rattle.number.specs.proved.NumberReadingLaws.{pushed_next, pushed_end, number_first, number_none}
+use Rattle.number.specs.Reading.{pushed_all, spelled_by}
+use Rattle.number.specs.ReadingLaws.{pushed_next, pushed_end, number_first, number_none}
 use Rattle.number.specs.declared.Number.{Number}
 use Rattle.number.proofs.spelled_by.Statement.{statement}
 use Rattle.number.proofs.spelled_by.Tie as tie

@@ -1,7 +1,7 @@
 use borrow.Author.Rules.{rules}
 use mathlib.Core.Path.{refl}
 use Rattle.perform.specs.Perform.{performed}
-use Rattle.perform.specs.proved.PerformLaws.{done_as}
+use Rattle.perform.specs.PerformLaws.{done_as}
 use Rattle.perform.proofs.perform.Statement.{statement}
 use Rattle.perform.proofs.perform.Tie as tie
 

@@ -1,5 +1,5 @@
 use borrow.Author.Rules.{rules}
-use Rattle.perform.specs.proved.PerformLaws.{line_text}
+use Rattle.perform.specs.PerformLaws.{line_text}
 use Rattle.perform.proofs.refuse.Statement.{statement}
 use Rattle.perform.proofs.refuse.Tie as tie
 

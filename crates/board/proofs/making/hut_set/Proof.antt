@@ -1,5 +1,5 @@
 use borrow.Author.Rules.{rules}
-use Rattle.board.proofs.ToldBeside.{made_beside}
+use Rattle.board.proofs.Beside.{made_beside}
 use Rattle.board.proofs.making.hut_set.Statement.{statement}
 use Rattle.board.proofs.making.hut_set.Tie as tie
 
@@ -7,4 +7,4 @@ pub hut_set_spec : {M : Type 1} → statement M
 hut_set_spec =
     tie.close
     (tie.spec (λ c κs. search rules) (λ c κs. search rules) (λ c. search rules)
-    (λ c. let f = c.before.before.before.set in made_beside f.result c.told_made_lem.result _ _ c.told_made_lem.ensures f.ensures))
+    (λ c. let f = c.before.before.before.set in made_beside f.result _ _ _ _ _ _ c.told-made.ensures f.ensures))

@@ -1,6 +1,6 @@
 use borrow.Author.Rules.{rules}
 use mathlib.Core.Path.{ap₂, ◌∙◌}
-use Rattle.index.specs.Reading.{finding}
+use Rattle.index.specs.Reading.{told}
 use Rattle.board.proofs.reading.hut_find.Statement.{statement}
 use Rattle.board.proofs.reading.hut_find.Tie as tie
 
@@ -9,4 +9,4 @@ hut_find_spec =
     tie.close
     (tie.spec (λ c κs. search rules) (λ c κs. search rules)
     (λ c. let t = c.told-found.ensures in
-    ap₂ finding t.0 t.1 ∙ c.before.find.ensures))
+    ap₂ told t.0 t.1 ∙ c.before.find.ensures))

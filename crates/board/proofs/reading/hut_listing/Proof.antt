@@ -1,6 +1,6 @@
 use borrow.Author.Rules.{rules}
 use Rattle.index.specs.Reading.{listed_as}
-use Rattle.board.proofs.ToldBeside.{listed_beside}
+use Rattle.board.proofs.Beside.{listed_beside}
 use Rattle.board.proofs.reading.hut_listing.Statement.{statement}
 use Rattle.board.proofs.reading.hut_listing.Tie as tie
 

@@ -1,6 +1,6 @@
 use borrow.Author.Rules.{rules}
 use Rattle.index.specs.Reading.{recovered_as}
-use Rattle.board.proofs.ToldBeside.{recovered_beside}
+use Rattle.board.proofs.Beside.{recovered_beside}
 use Rattle.board.proofs.reading.hut_recovery.Statement.{statement}
 use Rattle.board.proofs.reading.hut_recovery.Tie as tie
 

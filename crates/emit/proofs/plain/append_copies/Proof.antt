@@ -2,10 +2,10 @@ use borrow.Author.Rules.{rules}
 use native.Mathlib.Omega.{arith}
 use Prim.Native.Nat.{◌+◌, ◌-◌, ◌≤◌, ◌<◌}
 use mathlib.Core.Path.{◌≡◌}
-use Rattle.header.specs.proved.HeaderCode.{bits_of}
-use Rattle.leaf.specs.proved.LeafLaws.{leaf_in}
+use Rattle.header.specs.Header.{bits_of}
+use Rattle.leaf.specs.Leaf.{leaf_in}
 use Rattle.lists.specs.Lists.{last_beside}
-use Rattle.emit.specs.proved.CopyLaws.{CopiedTo, copied_start, copied_turn, copied_end}
+use Rattle.emit.specs.CopyLaws.{CopiedTo, copied_start, copied_turn, copied_end}
 use Rattle.emit.proofs.plain.append_copies.Statement.{statement}
 use Rattle.emit.proofs.plain.append_copies.Tie as tie
 

@@ -2,12 +2,12 @@ use borrow.Author.Rules.{rules}
 use mathlib.Core.Path.{sym, ap₂, ◌∙◌}
 use native.Mathlib.Omega.{arith}
 use Prim.Native.Nat.{ℕ}
-use Rattle.header.specs.proved.HeaderCode.{bits_of}
-use Rattle.leaf.specs.proved.LeafLaws.{leaf_in, occ_in_lem}
-use Rattle.leaf.specs.Leaf.{occ_in}
+use Rattle.header.specs.Header.{bits_of}
+use Rattle.leaf.specs.Leaf.{leaf_in, occ_in}
+use Rattle.leaf.specs.LeafLaws.{occ_in_lem}
 use Rattle.lists.specs.Lists.{entry_steps}
-use Rattle.emit.specs.proved.Appended.{appended}
-use Rattle.emit.specs.proved.CopyLaws.{turn_taken, turn_vacant}
+use Rattle.emit.specs.Appended.{appended}
+use Rattle.emit.specs.CopyLaws.{turn_taken, turn_vacant}
 use Rattle.emit.proofs.plain.append_copy.Statement.{statement}
 use Rattle.emit.proofs.plain.append_copy.Tie as tie
 

@@ -3,7 +3,7 @@ use mathlib.Core.List.{[], ◌∷◌}
 use mathlib.Core.Path.{refl, ap₂, ◌∙◌}
 use Prim.Native.Nat.{ℕ, ◌+◌, ◌*◌}
 use Rattle.steps.specs.declared.Step.TheVariants.{Store}
-use Rattle.emit.specs.proved.Appended.{appended, step_first, step_more}
+use Rattle.emit.specs.Appended.{appended, step_first, step_more}
 use Rattle.emit.proofs.plain.append_entry.Statement.{statement}
 use Rattle.emit.proofs.plain.append_entry.Tie as tie
 

@@ -1,8 +1,8 @@
 use borrow.Author.Rules.{rules}
 use native.Mathlib.Omega.{arith}
-use Rattle.header.specs.proved.HeaderCode.{bits_of}
-use Rattle.leaf.specs.proved.LeafLaws.{leaf_in}
-use Rattle.emit.specs.proved.PutStretches.{far_put_lem}
+use Rattle.header.specs.Header.{bits_of}
+use Rattle.leaf.specs.Leaf.{leaf_in}
+use Rattle.emit.specs.PutLaws.{far_put_lem}
 use Rattle.emit.proofs.plain.append_far_put.Statement.{statement}
 use Rattle.emit.proofs.plain.append_far_put.Tie as tie
 

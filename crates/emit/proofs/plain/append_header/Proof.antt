@@ -2,11 +2,11 @@ use borrow.Author.Rules.{rules}
 use mathlib.Core.List.{[], ◌∷◌}
 use mathlib.Core.Path.{refl, ap, ap₂, ◌∙◌}
 use Prim.Native.Nat.{ℕ, ◌+◌, ◌*◌}
-use Rattle.header.specs.proved.HeaderCode.{bits_of}
+use Rattle.header.specs.Header.{bits_of}
 use Rattle.steps.specs.declared.Step.TheVariants.{Store}
 use Rattle.steps.specs.Shapes.{one_store}
 use Rattle.lists.specs.Lists.{word_place, low_word}
-use Rattle.emit.specs.proved.Appended.{appended, step_first, stretch_more, start_place}
+use Rattle.emit.specs.Appended.{appended, step_first, stretch_more, start_place}
 use Rattle.emit.proofs.plain.append_header.Statement.{statement}
 use Rattle.emit.proofs.plain.append_header.Tie as tie
 

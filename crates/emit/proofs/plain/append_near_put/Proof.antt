@@ -2,11 +2,10 @@ use borrow.Author.Rules.{rules}
 use mathlib.Core.List.{◌++◌}
 use mathlib.Core.Path.{refl, ap, ap₂, ◌∙◌}
 use Prim.Native.Nat.{ℕ, ◌+◌, ◌*◌}
-use Rattle.header.specs.proved.HeaderCode.{bits_of}
-use Rattle.header.specs.Header.{marked}
+use Rattle.header.specs.Header.{bits_of, marked}
 use Rattle.steps.specs.Shapes.{one_store}
 use Rattle.lists.specs.Lists.{entry_steps, near_put, low_word}
-use Rattle.emit.specs.proved.Appended.{appended, stretch_more, start_place}
+use Rattle.emit.specs.Appended.{appended, stretch_more, start_place}
 use Rattle.emit.proofs.plain.append_near_put.Statement.{statement}
 use Rattle.emit.proofs.plain.append_near_put.Tie as tie
 

@@ -1,14 +1,13 @@
 use borrow.Author.Rules.{rules}
 use native.Mathlib.Omega.{arith}
 use mathlib.Core.Path.{refl, sym, ◌∙◌}
-use Rattle.header.specs.proved.HeaderCode.{bits_of}
-use Rattle.leaf.specs.proved.LeafLaws.{leaf_in}
-use Rattle.leaf.specs.Leaf.{occ_in}
-use Rattle.leaf.specs.proved.SearchLaws.{vacant_at}
+use Rattle.header.specs.Header.{bits_of}
+use Rattle.leaf.specs.Leaf.{leaf_in, occ_in}
+use Rattle.leaf.specs.SearchLaws.{vacant_at}
 use Rattle.leaf.specs.declared.search.Slot.TheVariants.{At, Missing}
 use Rattle.lists.specs.Lists.{put_found, plain_put}
-use Rattle.emit.specs.proved.Appended.{appended, wrote_as}
-use Rattle.emit.specs.proved.PutStretches.{put_found_lem}
+use Rattle.emit.specs.Appended.{appended, wrote_as}
+use Rattle.emit.specs.PutLaws.{put_found_lem}
 use Rattle.emit.proofs.plain.append_plain_put.Statement.{statement}
 use Rattle.emit.proofs.plain.append_plain_put.Tie as tie
 

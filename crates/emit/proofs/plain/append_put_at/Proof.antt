@@ -1,9 +1,9 @@
 use borrow.Author.Rules.{rules}
-use Rattle.header.specs.proved.HeaderCode.{bits_of}
-use Rattle.leaf.specs.proved.LeafLaws.{leaf_in}
+use Rattle.header.specs.Header.{bits_of}
+use Rattle.leaf.specs.Leaf.{leaf_in}
 use Rattle.lists.specs.Lists.{far_put, put_at}
-use Rattle.emit.specs.proved.Appended.{wrote_as}
-use Rattle.emit.specs.proved.PutStretches.{put_near, put_far}
+use Rattle.emit.specs.Appended.{wrote_as}
+use Rattle.emit.specs.PutLaws.{put_near, put_far}
 use Rattle.emit.proofs.plain.append_put_at.Statement.{statement}
 use Rattle.emit.proofs.plain.append_put_at.Tie as tie
 

@@ -4,11 +4,11 @@ use borrow.Author.Tests.{not-true, not-false}
 use mathlib.Core.Logic.{⊎_elim}
 use Prim.Native.Nat.{ℕ, ◌+◌, ◌-◌, ◌≤◌, ◌<◌}
 use mathlib.Core.Path.{◌≡◌, sym, ap, ◌∙◌}
-use Rattle.header.specs.proved.HeaderCode.{bits_of}
-use Rattle.header.specs.Header.{marked}
-use Rattle.leaf.specs.proved.LeafLaws.{leaf_in, occ_in_lem}
+use Rattle.header.specs.Header.{bits_of, marked}
+use Rattle.leaf.specs.Leaf.{leaf_in}
+use Rattle.leaf.specs.LeafLaws.{occ_in_lem}
 use Rattle.lists.specs.Lists.{last_beside}
-use Rattle.emit.specs.proved.CopyLaws.{FilledTo, filled_start, filled_taken, filled_vacant, filled_end}
+use Rattle.emit.specs.CopyLaws.{FilledTo, filled_start, filled_taken, filled_vacant, filled_end}
 use Rattle.emit.proofs.plain.filled_head.Statement.{statement}
 use Rattle.emit.proofs.plain.filled_head.Tie as tie
 

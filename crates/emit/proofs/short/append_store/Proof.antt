@@ -3,7 +3,7 @@ use mathlib.Core.List.{[], ◌∷◌}
 use mathlib.Core.Path.{refl}
 use Prim.Native.Nat.{◌+◌, ◌/◌}
 use Rattle.steps.specs.declared.Step.TheVariants.{Store, WriteBack, Fence}
-use Rattle.emit.specs.proved.Appended.{step_first, step_more}
+use Rattle.emit.specs.Appended.{step_first, step_more}
 use Rattle.emit.proofs.short.append_store.Statement.{statement}
 use Rattle.emit.proofs.short.append_store.Tie as tie
 

@@ -6,7 +6,7 @@ use Rattle.header.specs.Header.{cleared}
 use Rattle.steps.specs.Shapes.{one_store}
 use Rattle.steps.specs.Encoding.{written}
 use Rattle.lists.specs.Lists.{clear_list, low_word}
-use Rattle.emit.specs.proved.Appended.{appended_start, start_place}
+use Rattle.emit.specs.Appended.{appended_start, start_place}
 use Rattle.emit.proofs.short.write_clear.Statement.{statement}
 use Rattle.emit.proofs.short.write_clear.Tie as tie
 

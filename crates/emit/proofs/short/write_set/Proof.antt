@@ -5,7 +5,7 @@ use Prim.Native.Nat.{ℕ, ◌+◌, ◌*◌}
 use Rattle.steps.specs.Shapes.{one_store}
 use Rattle.steps.specs.Encoding.{written}
 use Rattle.lists.specs.Lists.{set_list}
-use Rattle.emit.specs.proved.Appended.{appended_start}
+use Rattle.emit.specs.Appended.{appended_start}
 use Rattle.emit.proofs.short.write_set.Statement.{statement}
 use Rattle.emit.proofs.short.write_set.Tie as tie
 

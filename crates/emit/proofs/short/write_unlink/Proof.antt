@@ -2,13 +2,12 @@ use borrow.Author.Rules.{rules}
 use native.Mathlib.Omega.{arith}
 use mathlib.Core.Path.{sym, ap, ap₂, ◌∙◌}
 use Prim.Native.Nat.{ℕ, ◌+◌, ◌*◌}
-use Rattle.header.specs.Header.{alt_in}
-use Rattle.header.specs.proved.HeaderCode.{bits_of}
-use Rattle.header.specs.proved.HeaderLaws.{alt_lt}
+use Rattle.header.specs.Header.{alt_in, bits_of}
+use Rattle.header.specs.HeaderLaws.{alt_lt}
 use Rattle.steps.specs.Shapes.{one_store}
 use Rattle.steps.specs.Encoding.{written}
 use Rattle.lists.specs.Lists.{unlink_list, sib_place}
-use Rattle.emit.specs.proved.Appended.{appended_start}
+use Rattle.emit.specs.Appended.{appended_start}
 use Rattle.emit.proofs.short.write_unlink.Statement.{statement}
 use Rattle.emit.proofs.short.write_unlink.Tie as tie
 

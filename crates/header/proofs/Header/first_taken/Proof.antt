@@ -1,7 +1,6 @@
 use borrow.Author.Rules.{rules}
 use native.Mathlib.Omega.{arith}
-use Rattle.words.specs.proved.First.{first_of, first_none}
-use Rattle.header.specs.proved.HeaderCode.{taken_low}
+use Rattle.header.specs.HeaderCode.{first_taken, none_taken}
 use Rattle.header.proofs.Header.first_taken.Statement.{statement}
 use Rattle.header.proofs.Header.first_taken.Tie as tie
 
@@ -10,5 +9,7 @@ first_taken_spec =
     tie.close
     (tie.spec
     (λ c κs. search rules)
-    (λ c. first_of _ _ _ (taken_low _ _ (omega arith) _ c.before.lowest_one.ensures) 14 (omega arith) (omega arith))
-    (λ c. first_none _ _ _ (taken_low _ _ (omega arith) _ c.before.lowest_one.ensures) 14 (omega arith)))
+    (λ c. let o = c.before in let a = o.before.args.self in
+    first_taken a.low a.high o.lowest_one.result (omega arith) o.lowest_one.ensures (omega arith))
+    (λ c. let o = c.before in let a = o.before.args.self in
+    none_taken a.low a.high o.lowest_one.result (omega arith) o.lowest_one.ensures (omega arith)))

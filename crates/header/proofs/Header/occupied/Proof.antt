@@ -1,6 +1,6 @@
 use borrow.Author.Rules.{rules}
 use native.Mathlib.Omega.{arith}
-use Rattle.header.specs.proved.HeaderCode.{occupied_low}
+use Rattle.header.specs.HeaderCode.{occupied_low}
 use Rattle.header.proofs.Header.occupied.Statement.{statement}
 use Rattle.header.proofs.Header.occupied.Tie as tie
 
@@ -9,4 +9,4 @@ occupied_spec =
     tie.close
     (tie.spec (λ c κs. search rules)
     (λ c. let a = c.before.args in
-    rw c.get.ensures (occupied_low a.self.low a.self.high (omega arith) a.s (omega arith))))
+    rw c.get.ensures (occupied_low a.self.low a.self.high a.s (omega arith) (omega arith))))

@@ -1,5 +1,5 @@
 use borrow.Author.Rules.{rules}
-use Rattle.header.specs.proved.HeaderCode.{head_at}
+use Rattle.header.specs.Header.{head_at}
 use Rattle.header.proofs.Header.read.Statement.{statement}
 use Rattle.header.proofs.Header.read.Tie as tie
 

@@ -3,11 +3,11 @@ use native.Mathlib.Omega.{arith}
 use mathlib.Core.Path.{sym, ap, ◌∙◌}
 use Prim.Native.Nat.{ℕ}
 use Rattle.leaf.specs.Search.{slot_of}
-use Rattle.survey.specs.proved.Walk.{State}
+use Rattle.survey.specs.Walk.{State}
 use Rattle.image.specs.Image.{leaves}
 use Rattle.index.specs.Reading.{found_as}
-use Rattle.index.specs.proved.SoundTest.{long_enough, noted_bounds, block_inside}
-use Rattle.index.specs.proved.FindLaws.{found_at, find_bad, find_unsound, find_slot}
+use Rattle.index.specs.SoundTest.{long_enough, noted_bounds, block_inside}
+use Rattle.index.specs.FindLaws.{found_at, find_bad, find_unsound, find_slot}
 use Rattle.index.proofs.find.find.Statement.{statement}
 use Rattle.index.proofs.find.find.Tie as tie
 
@@ -16,7 +16,7 @@ find-in-requires c κs =
     let s = c.before.before in
     let b = s.before.before in
     let a = b.before.before.args in
-    let fine = sym b.bad-image.ensures ∙ s.before.if1.false in
+    let fine = sym b.bad_image_lem.ensures ∙ s.before.if1.false in
     omega (
       arith,
       block_inside a.image.now s.survey.result.target fine
@@ -28,7 +28,7 @@ returns-3 c =
     let s = c.before.before.before in
     let b = s.before.before in
     let a = b.before.before.args in
-    let fine = sym b.bad-image.ensures ∙ s.before.if1.false in
+    let fine = sym b.bad_image_lem.ensures ∙ s.before.if1.false in
     let l = a.image.now in
     ap found_as (c.find-in.ensures
     ∙ ap (λ (t : ℕ). found_at (leaves l t) (slot_of (leaves l t) a.key)) (ap (λ (st : State). st.target) s.survey.ensures))
@@ -39,9 +39,9 @@ find_spec =
     tie.close
     (tie.spec (λ c κs. search rules)
     (λ c. let a = c.before.before.before.args in
-    find_bad a.image.now a.key (sym c.before.bad-image.ensures ∙ c.if1.true))
-    (λ c κs. long_enough c.before.before.before.args.image.now (sym c.before.bad-image.ensures ∙ c.if1.false))
+    find_bad a.image.now a.key (sym c.before.bad_image_lem.ensures ∙ c.if1.true))
+    (λ c κs. long_enough c.before.before.before.args.image.now (sym c.before.bad_image_lem.ensures ∙ c.if1.false))
     (λ c. let s = c.before.before in let b = s.before.before in let a = b.before.before.args in
-    find_unsound a.image.now a.key (sym b.bad-image.ensures ∙ s.before.if1.false)
+    find_unsound a.image.now a.key (sym b.bad_image_lem.ensures ∙ s.before.if1.false)
     (λ e. c.if2.true (ap (λ (st : State). st.stage) s.survey.ensures ∙ e)))
     find-in-requires returns-3)

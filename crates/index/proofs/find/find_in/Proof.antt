@@ -2,9 +2,9 @@ use borrow.Author.Rules.{rules}
 use mathlib.Core.Path.{refl, ap, ◌∙◌}
 use Prim.Native.Nat.{◌+◌, ◌*◌}
 use Rattle.leaf.specs.Leaf.{Leaf}
-use Rattle.leaf.specs.proved.LeafLaws.{part_leaf}
+use Rattle.leaf.specs.LeafLaws.{part_leaf}
 use Rattle.leaf.specs.Search.{slot_of}
-use Rattle.index.specs.proved.FindLaws.{found_at}
+use Rattle.index.specs.FindLaws.{found_at}
 use Rattle.index.proofs.find.find_in.Statement.{statement}
 use Rattle.index.proofs.find.find_in.Tie as tie
 

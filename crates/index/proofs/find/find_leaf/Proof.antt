@@ -2,10 +2,10 @@ use borrow.Author.Rules.{rules}
 use native.Mathlib.Omega.{arith}
 use mathlib.Core.Path.{sym, ap, ◌∙◌}
 use Prim.Native.Nat.{ℕ}
-use Rattle.leaf.specs.proved.LeafLaws.{leaf_in}
-use Rattle.leaf.specs.proved.SearchLaws.{slot_at}
+use Rattle.leaf.specs.Leaf.{leaf_in}
+use Rattle.leaf.specs.SearchLaws.{slot_at}
 use Rattle.index.specs.declared.find.Found.TheVariants.{Value}
-use Rattle.index.specs.proved.FindLaws.{found_at}
+use Rattle.index.specs.FindLaws.{found_at}
 use Rattle.index.proofs.find.find_leaf.Statement.{statement}
 use Rattle.index.proofs.find.find_leaf.Tie as tie
 

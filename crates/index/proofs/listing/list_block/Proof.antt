@@ -3,10 +3,10 @@ use native.Mathlib.Omega.{arith}
 use mathlib.Core.Path.{refl, sym, ap, subst, ◌∙◌}
 use Prim.Native.Nat.{◌+◌, ◌-◌, ◌*◌}
 use lib.ListN.{drop, length-take, length-drop}
-use Rattle.leaf.specs.Leaf.{Leaf}
-use Rattle.leaf.specs.proved.LeafLaws.{Right, part_leaf}
-use Rattle.index.specs.proved.Filling.{buffers, fill}
-use Rattle.index.specs.proved.ListingLaws.{entries_from}
+use Rattle.leaf.specs.Leaf.{Leaf, Right}
+use Rattle.leaf.specs.LeafLaws.{part_leaf}
+use Rattle.index.specs.Filling.{buffers, fill}
+use Rattle.index.specs.ListingLaws.{entries_from}
 use Rattle.index.proofs.listing.list_block.Statement.{statement}
 use Rattle.index.proofs.listing.list_block.Tie as tie
 

@@ -5,13 +5,13 @@ use Prim.Native.Nat.{ℕ, ◌-◌, ◌≤◌, ◌<◌}
 use mathlib.Core.Path.{◌≡◌, refl, sym, ap, subst}
 use mathlib.Core.List.{List}
 use lib.ListN.{length}
-use Rattle.leaf.specs.proved.LeafLaws.{Right}
+use Rattle.leaf.specs.Leaf.{Right}
 use Rattle.image.specs.Chain.{All}
 use Rattle.image.specs.Image.{blocks, leaves}
-use Rattle.index.specs.Held.{chain_from}
-use Rattle.index.specs.proved.Filling.{buffers, fill}
-use Rattle.index.specs.proved.Along.{chain_whole, Ahead, ahead_here, ahead_next}
-use Rattle.index.specs.proved.ListingLaws.{list_from, chain_done, chain_next, chain_ends, chain_full}
+use Rattle.index.specs.Reading.{chain_from}
+use Rattle.index.specs.Filling.{buffers, fill}
+use Rattle.index.specs.Along.{chain_whole, Ahead, ahead_here, ahead_next}
+use Rattle.index.specs.ListingLaws.{list_from, chain_done, chain_next, chain_ends, chain_full}
 use Rattle.index.proofs.listing.list_chain.Statement.{statement}
 use Rattle.index.proofs.listing.list_chain.Tie as tie
 

@@ -4,11 +4,11 @@ use native.Mathlib.Omega.{arith}
 use Prim.Native.Nat.{◌-◌, ◌≤◌}
 use mathlib.Core.Path.{◌≡◌, refl, sym, ◌∙◌}
 use lib.ListN.{length, take, drop, length-set}
-use lib.Seq.{get_or-take, length-take-le}
-use Rattle.leaf.specs.proved.LeafLaws.{leaf_in}
-use Rattle.image.specs.proved.Entries.{entries_at}
-use Rattle.index.specs.proved.Filling.{buffers, fill}
-use Rattle.index.specs.proved.ListingLaws.{slots_end, slots_full, slots_next}
+use lib.Seq.{get_or-take}
+use Rattle.leaf.specs.Leaf.{leaf_in}
+use Rattle.image.specs.Entries.{entries_at}
+use Rattle.index.specs.Filling.{buffers, fill}
+use Rattle.index.specs.ListingLaws.{slots_end, slots_full, slots_next, first_length}
 use Rattle.index.proofs.listing.list_slots.Statement.{statement}
 use Rattle.index.proofs.listing.list_slots.Tie as tie
 
@@ -66,7 +66,7 @@ loop-again c =
       length-set k.loop.values k.loop.n v.value-at.result ∙ k.loop.invariant.2,
       slots_next L a.room k.loop.i k.loop.n ss k.loop.keys k.loop.values _ k.loop.invariant.3 _
           y.key-at.result v.value-at.result
-          (omega (arith, length-take-le a.count a.order.now (omega arith)))
+          (omega (arith, first_length a.order.now a.count (omega arith)))
           (omega arith)
           (sym (get_or-take a.count a.order.now k.loop.i 0 (omega arith)))
           y.key-at.ensures
@@ -79,7 +79,7 @@ returns-2 c =
     let a = k.before.before.before.before.before.args in
     slots_end (leaf_in a.leaf.now) a.room k.loop.i k.loop.n (take a.count a.order.now) k.loop.keys
     k.loop.values _
-    k.loop.invariant.3 (omega (arith, length-take-le a.count a.order.now (omega arith)))
+    k.loop.invariant.3 (omega (arith, first_length a.order.now a.count (omega arith)))
 
 pub list_slots_spec : {M : Type 1} → statement M
 list_slots_spec =

@@ -3,9 +3,9 @@ use native.Mathlib.Omega.{arith}
 use mathlib.Core.Path.{refl, sym, ap, ◌∙◌}
 use lib.ListN.{length}
 use Rattle.image.specs.Image.{blocks}
-use Rattle.survey.specs.proved.Walk.{State}
-use Rattle.index.specs.proved.SoundTest.{long_enough}
-use Rattle.index.specs.proved.RecoveryLaws.{leaves_few, not_short, recovery_unsound, recovery_done}
+use Rattle.survey.specs.Walk.{State}
+use Rattle.index.specs.SoundTest.{long_enough}
+use Rattle.index.specs.RecoveryLaws.{leaves_few, not_short, recovery_unsound, recovery_done}
 use Rattle.index.proofs.recovery.noted.Statement.{statement}
 use Rattle.index.proofs.recovery.noted.Tie as tie
 

@@ -6,10 +6,10 @@ use mathlib.Core.Path.{◌≡◌, refl, sym, ap, ◌∙◌}
 use mathlib.Core.Logic.{⊎_elim}
 use Rattle.words.specs.Bools.{bit}
 use Rattle.words.specs.Below.{count_below}
-use Rattle.words.specs.proved.BelowLaws.{count_next}
-use Rattle.header.specs.proved.HeaderCode.{bits_of}
+use Rattle.words.specs.BelowLaws.{count_next}
+use Rattle.header.specs.Header.{bits_of}
 use Rattle.leaf.specs.Leaf.{occ_in}
-use Rattle.leaf.specs.proved.LeafLaws.{occ_in_lem}
+use Rattle.leaf.specs.LeafLaws.{occ_in_lem}
 use Rattle.leaf.proofs.search.entries.Statement.{statement}
 use Rattle.leaf.proofs.search.entries.Tie as tie
 

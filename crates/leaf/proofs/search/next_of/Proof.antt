@@ -1,9 +1,9 @@
 use borrow.Author.Rules.{rules}
 use native.Mathlib.Omega.{arith}
 use mathlib.Core.Path.{sym, ◌∙◌}
-use Rattle.header.specs.proved.HeaderCode.{bits_of}
-use Rattle.header.specs.proved.HeaderLaws.{alt_lt}
-use Rattle.leaf.specs.proved.SearchSteps.{in_next}
+use Rattle.header.specs.Header.{bits_of}
+use Rattle.header.specs.HeaderLaws.{alt_lt}
+use Rattle.leaf.specs.SearchSteps.{in_next}
 use Rattle.leaf.proofs.search.next_of.Statement.{statement}
 use Rattle.leaf.proofs.search.next_of.Tie as tie
 

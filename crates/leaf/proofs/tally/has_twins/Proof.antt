@@ -2,13 +2,13 @@
 use native.Mathlib.Omega.{arith}
 use Prim.Native.Nat.{ℕ, suc, ◌-◌, ◌≤◌, ◌<◌}
 use mathlib.Core.Path.{◌≡◌, sym, subst, ◌∙◌}
-use Rattle.leaf.specs.proved.LeafLaws.{leaf_in}
-use Rattle.leaf.specs.proved.TallySteps.{StillLeft, left_whole, left_next, left_some, left_none, twins_found}
+use Rattle.leaf.specs.Leaf.{leaf_in}
+use Rattle.leaf.specs.TallySteps.{Left, left_whole, left_next, left_some, left_none, twins_found}
 use Rattle.leaf.proofs.tally.has_twins.Statement.{statement}
 use Rattle.leaf.proofs.tally.has_twins.Tie as tie
 
 abbrev invariant-loop : tie.invariant-loop
-invariant-loop leaf head hits left₀ s₀ left s = (s ≤ 14) × StillLeft (leaf_in leaf) s left
+invariant-loop leaf head hits left₀ s₀ left s = (s ≤ 14) × Left (leaf_in leaf) s left
 
 abbrev decreases-loop : tie.decreases-loop
 decreases-loop leaf head hits left₀ s₀ left s = s
@@ -22,7 +22,7 @@ is-hit-twin-requires c κs =
     let st = k.before.before in
     let some : 0 < k.loop.s = sub-s c in
     let q : k.loop.s ≡ suc (k.loop.s - 1) = omega arith in
-    let now-left : StillLeft (leaf_in st.args.leaf.now) (suc (k.loop.s - 1)) k.loop.left = rw q at k.loop.invariant.1 in
+    let now-left : Left (leaf_in st.args.leaf.now) (suc (k.loop.s - 1)) k.loop.left = rw q at k.loop.invariant.1 in
     (omega arith, omega arith, st.requires.1, now-left.told.0)
 
 returns : tie.Need-returns invariant-loop decreases-loop
@@ -40,7 +40,7 @@ loop-again c =
     let q : k.loop.s ≡ suc (k.loop.s - 1) = omega arith in
     let L = leaf_in k.before.before.args.leaf.now in (
       omega arith,
-      left_next L (k.loop.s - 1) k.loop.left (subst (λ (n : ℕ). StillLeft L n k.loop.left) q k.loop.invariant.1)
+      left_next L (k.loop.s - 1) k.loop.left (subst (λ (n : ℕ). Left L n k.loop.left) q k.loop.invariant.1)
           (sym c.before.is-hit-twin.ensures ∙ c.if1.false),
     )
 

@@ -2,9 +2,9 @@ use borrow.Author.Rules.{rules}
 use native.Mathlib.Omega.{arith}
 use native.Mathlib.Nat.{zero-add}
 use mathlib.Core.Path.{refl, sym, ◌∙◌}
-use Rattle.header.specs.proved.HeaderCode.{head_at}
-use Rattle.header.specs.proved.HeaderLaws.{fingerprint_byte}
-use Rattle.leaf.specs.proved.SearchSteps.{in_fp}
+use Rattle.header.specs.Header.{head_at}
+use Rattle.header.specs.HeaderLaws.{fingerprint_byte}
+use Rattle.leaf.specs.SearchSteps.{in_fp}
 use Rattle.leaf.proofs.tally.print_at.Statement.{statement}
 use Rattle.leaf.proofs.tally.print_at.Tie as tie
 

@@ -7,8 +7,8 @@ use borrow.Author.Rules.{rules}
 use borrow.Author.Tests.{lt-ltb, le-ltb}
 use lib.ListN.{length}
 use Rattle.words.specs.Below.{any_below}
-use Rattle.words.specs.proved.BelowLaws.{any_make, any_next}
-use Rattle.machine.specs.proved.Lost.{above_by}
+use Rattle.words.specs.BelowLaws.{any_make, any_next}
+use Rattle.machine.specs.Lost.{above_by}
 use Rattle.machine.proofs.refusals.any_above.Statement.{statement}
 use Rattle.machine.proofs.refusals.any_above.Tie as tie
 

@@ -5,10 +5,10 @@ use mathlib.Core.Path.{◌≡◌, refl, sym, ap, ◌∙◌, subst}
 use native.Mathlib.Omega.{arith}
 use lib.ListN.{length}
 use Rattle.words.specs.Below.{any_below}
-use Rattle.words.specs.proved.BelowLaws.{any_make, any_next}
+use Rattle.words.specs.BelowLaws.{any_make, any_next}
 use Rattle.steps.specs.Encoding.{step_at}
-use Rattle.machine.specs.proved.Tables.{Tally, tally_none, tally_most, tally_next, counted_length}
-use Rattle.machine.specs.proved.Lost.{lost_at, lost_by_lem}
+use Rattle.machine.specs.Tables.{Tally, tally_none, tally_most, tally_next, counted_length}
+use Rattle.machine.specs.Lost.{lost_at, lost_by_lem}
 use Rattle.machine.proofs.refusals.any_lost.Statement.{statement}
 use Rattle.machine.proofs.refusals.any_lost.Tie as tie
 

@@ -4,7 +4,7 @@ use mathlib.Core.Bool.{false, not}
 use mathlib.Core.Path.{◌≡◌, refl, sym, ap, ◌∙◌}
 use native.Mathlib.Omega.{arith}
 use Rattle.words.specs.Below.{any_below}
-use Rattle.words.specs.proved.BelowLaws.{any_make, any_next}
+use Rattle.words.specs.BelowLaws.{any_make, any_next}
 use Rattle.machine.specs.Taking.{malformed}
 use Rattle.machine.proofs.refusals.any_malformed.Statement.{statement}
 use Rattle.machine.proofs.refusals.any_malformed.Tie as tie

@@ -4,7 +4,7 @@ use Prim.Native.Nat.{ℕ, ◌+◌, ◌%◌, ◌<◌, ◌≤◌}
 use mathlib.Core.List.{List}
 use native.Mathlib.Omega.{arith}
 use lib.ListN.{set, length-set}
-use Rattle.perform.specs.proved.Printing.{length_small, length_more, sets_small, sets_more}
+use Rattle.perform.specs.Printing.{length_small, length_more, sets_small, sets_more}
 use borrow.Fn.Kinds.{In}
 use borrow.Fn.PlainCycle.{Measures, is, falls, and}
 use Rattle.perform.proofs.answer.write_number.Reads as write-number

@@ -2,7 +2,7 @@
 use native.Mathlib.Omega.{arith}
 use borrow.Author.Rules.{rules}
 use mathlib.Core.List.{◌++◌}
-use Rattle.perform.specs.proved.Printing.{number_and, stored_behind, pair_short, line_written, pairs_are_line}
+use Rattle.perform.specs.Printing.{marked, stored_behind, pair_short, line_written, pairs_are_line}
 use Rattle.perform.proofs.answer.answer_line.Statement.{statement}
 use Rattle.perform.proofs.answer.answer_line.Tie as tie
 
@@ -17,8 +17,8 @@ returns c =
     let w2 = c.before.before in
     let w1 = w2.before.before.before.before in
     let a = w1.before.before.before.args in
-    let xs = number_and a.a 9 ++ number_and a.b 9 in
-    let ys = number_and a.c 9 ++ number_and a.d 10 in
+    let xs = marked a.a 9 ++ marked a.b 9 in
+    let ys = marked a.c 9 ++ marked a.d 10 in
     line_written a.buf.now (xs ++ ys) _ _ _ (pairs_are_line a.a a.b a.c a.d)
     (stored_behind a.buf.now 0 xs _ _ ys _ _ w1.write-pair.ensures w2.write-pair2.ensures)
     (omega (

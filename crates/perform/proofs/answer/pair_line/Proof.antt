@@ -2,7 +2,7 @@
 use native.Mathlib.Omega.{arith}
 use borrow.Author.Rules.{rules}
 use mathlib.Core.List.{◌++◌}
-use Rattle.perform.specs.proved.Printing.{number_and, pair_short, line_written, pair_is_line}
+use Rattle.perform.specs.Printing.{marked, pair_short, line_written, pair_is_line}
 use Rattle.perform.proofs.answer.pair_line.Statement.{statement}
 use Rattle.perform.proofs.answer.pair_line.Tie as tie
 
@@ -10,7 +10,7 @@ returns : tie.Need-returns
 returns c =
     let w = c.before.before in
     let a = w.before.before.before.args in
-    let xs = number_and a.a 9 ++ number_and a.b 10 in
+    let xs = marked a.a 9 ++ marked a.b 10 in
     line_written a.buf.now xs _ _ _ (pair_is_line a.a a.b) w.write-pair.ensures
     (omega (arith, w.write-pair.ensures.0, pair_short a.a a.b 10 (omega arith) (omega arith)))
 

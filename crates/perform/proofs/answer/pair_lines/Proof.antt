@@ -5,13 +5,13 @@ use native.Mathlib.Omega.{arith}
 use borrow.Author.Rules.{rules}
 use lib.ListN.{length, get_or}
 use Rattle.perform.specs.Perform.{text_of}
-use Rattle.perform.specs.proved.Printing.{BytesStored, rows_to, pair_short, line_written, row_stored}
+use Rattle.perform.specs.Printing.{Stored, rows_to, pair_short, line_written, row_stored}
 use Rattle.perform.proofs.answer.pair_lines.Statement.{statement}
 use Rattle.perform.proofs.answer.pair_lines.Tie as tie
 
 abbrev invariant-loop : tie.invariant-loop
 invariant-loop buf₀ keys values n end₀ i₀ buf end i =
-    (i ≤ n) × (end ≤ 42 * i) × (length buf ≡ length buf₀) × BytesStored buf₀ 0 (text_of (rows_to i keys values)) buf end
+    (i ≤ n) × (end ≤ 42 * i) × (length buf ≡ length buf₀) × Stored buf₀ 0 (text_of (rows_to i keys values)) buf end
 
 abbrev decreases-loop : tie.decreases-loop
 decreases-loop buf₀ keys values n end₀ i₀ buf end i = n - i

@@ -4,7 +4,7 @@ use mathlib.Core.List.{[], ◌∷◌}
 use native.Mathlib.Omega.{arith}
 use borrow.Author.Rules.{rules}
 use Rattle.number.specs.Decimal.{decimal}
-use Rattle.perform.specs.proved.Printing.{stored_behind, decimal_short}
+use Rattle.perform.specs.Printing.{stored_behind, decimal_short}
 use Rattle.perform.proofs.answer.write_field.Statement.{statement}
 use Rattle.perform.proofs.answer.write_field.Tie as tie
 

@@ -1,7 +1,7 @@
 -- `perform::answer::write_pair` meets its contract: two fields, one behind the other.
 use native.Mathlib.Omega.{arith}
 use borrow.Author.Rules.{rules}
-use Rattle.perform.specs.proved.Printing.{number_and, stored_behind, marked_short}
+use Rattle.perform.specs.Printing.{marked, stored_behind, marked_short}
 use Rattle.perform.proofs.answer.write_pair.Statement.{statement}
 use Rattle.perform.proofs.answer.write_pair.Tie as tie
 
@@ -16,7 +16,7 @@ returns c =
     let w2 = c.before.before in
     let w1 = w2.before.before.before.before in
     let a = w1.before.before.before.args in
-    stored_behind a.buf.now a.at (number_and a.a 9) _ _ (number_and a.b a.mark) _ _
+    stored_behind a.buf.now a.at (marked a.a 9) _ _ (marked a.b a.mark) _ _
     w1.write-field.ensures w2.write-field2.ensures
 
 pub write_pair_spec : {M : Type 1} → statement M

@@ -1,5 +1,5 @@
 use borrow.Author.Rules.{rules}
-use Rattle.perform.specs.proved.PerformLaws.{whole_as}
+use Rattle.perform.specs.PerformLaws.{taken_as}
 use Rattle.perform.proofs.change.do_put.Statement.{statement}
 use Rattle.perform.proofs.change.do_put.Tie as tie
 
@@ -8,7 +8,7 @@ returns c =
     let t = c.before.before in
     let p = t.before.before.before.before.before in
     let a = p.before.before.before.before.args in
-    (whole_as a.image.now _ _ _ _ _ _ p.hut-put.ensures t.take.ensures.0, t.take.ensures.1)
+    (taken_as a.image.now _ _ _ _ _ _ p.hut-put.ensures t.take.ensures.0, t.take.ensures.1)
 
 pub do_put_spec : {M : Type 1} → statement M
 do_put_spec = tie.close (tie.spec (λ c. search rules) (λ c κs. search rules) (λ c. search rules) (λ c κs. search rules) (λ c. search rules) returns)

@@ -1,14 +1,15 @@
 use borrow.Author.Rules.{rules}
-use Rattle.promises.specs.Outside.{hut_made}
-use Rattle.perform.specs.proved.PerformLaws.{whole_done}
+use Rattle.board.specs.Told.{made_is}
+use Rattle.perform.specs.PerformLaws.{taken_done}
 use Rattle.perform.proofs.change.take.Statement.{statement}
 use Rattle.perform.proofs.change.take.Tie as tie
 
 returns : tie.Need-returns
 returns c =
     let w = c.before.before.before.before in
-    let a = w.before.before.before.before.args in (
-      whole_done a.image.now (hut_made a.made a.list.now) _ _ _ _
+    let a = w.before.before.before.before.args in
+    let m = a.made in (
+      taken_done a.image.now (made_is m.answer m.steps m.line_writes m.word_writes a.list.now) _ _ _ _
           w.run_accepted.ensures c.answer-line.ensures.0,
       c.answer-line.ensures.1,
     )

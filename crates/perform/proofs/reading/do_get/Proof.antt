@@ -1,5 +1,5 @@
 use borrow.Author.Rules.{rules}
-use Rattle.perform.specs.proved.PerformLaws.{got_line}
+use Rattle.perform.specs.PerformLaws.{got_line}
 use Rattle.perform.proofs.reading.do_get.Statement.{statement}
 use Rattle.perform.proofs.reading.do_get.Tie as tie
 

@@ -1,7 +1,7 @@
 use borrow.Author.Rules.{rules}
 use native.Mathlib.Omega.{arith}
-use Rattle.perform.specs.proved.PerformLaws.{rows_text}
-use Rattle.perform.specs.proved.ListedRows.{list_rows, list_few}
+use Rattle.perform.specs.PerformLaws.{rows_text}
+use Rattle.perform.specs.ListLaws.{list_rows, list_few}
 use Rattle.perform.proofs.reading.do_list.Statement.{statement}
 use Rattle.perform.proofs.reading.do_list.Tie as tie
 

@@ -1,9 +1,9 @@
 use borrow.Author.Rules.{rules}
 use native.Mathlib.Omega.{arith}
 use mathlib.Core.Path.{sym, ◌∙◌}
-use Rattle.header.specs.proved.HeaderCode.{bits_of}
-use Rattle.leaf.specs.proved.LeafLaws.{leaf_in}
-use Rattle.split.specs.proved.Full.{the_moved, up_is, full_up, full_below}
+use Rattle.header.specs.Header.{bits_of}
+use Rattle.leaf.specs.Leaf.{leaf_in}
+use Rattle.split.specs.Full.{the_moved, up_is, full_up, full_below}
 use Rattle.split.proofs.full.write_full_put.Statement.{statement}
 use Rattle.split.proofs.full.write_full_put.Tie as tie
 

@@ -3,7 +3,7 @@ use mathlib.Core.Bool.{Bool}
 use mathlib.Core.Path.{sym, ap, ap₂, ◌∙◌}
 use Prim.Native.Nat.{ℕ}
 use Rattle.header.specs.Header.{marked}
-use Rattle.leaf.specs.proved.LeafLaws.{leaf_in}
+use Rattle.leaf.specs.Leaf.{leaf_in}
 use Rattle.lists.specs.FullLists.{new_header}
 use Rattle.split.proofs.heads.new_head.Statement.{statement}
 use Rattle.split.proofs.heads.new_head.Tie as tie

@@ -2,10 +2,9 @@ use borrow.Author.Rules.{rules}
 use native.Mathlib.Omega.{arith}
 use Prim.Native.Nat.{◌-◌, ◌≤◌}
 use mathlib.Core.Path.{◌≡◌, refl, sym, ap, ◌∙◌}
-use lib.ListN.{drop, drop_of_length-le}
-use Rattle.header.specs.proved.HeaderCode.{bits_of}
-use Rattle.header.specs.Header.{flipped, cleared_all}
-use Rattle.split.specs.proved.Heads.{cleared_next}
+use lib.ListN.{drop}
+use Rattle.header.specs.Header.{bits_of, flipped, cleared_all}
+use Rattle.split.specs.Heads.{drop_end, cleared_next}
 use Rattle.split.proofs.heads.old_head.Statement.{statement}
 use Rattle.split.proofs.heads.old_head.Tie as tie
 
@@ -28,8 +27,8 @@ returns : tie.Need-returns invariant-loop decreases-loop
 returns c =
     let b = c.before.before in
     let m = b.before.before.args.moved.now in
-    let none = drop_of_length-le m {i = b.loop.i} (omega arith) in
-    c.flip-alt.ensures ∙ ap flipped (sym (ap (cleared_all (bits_of b.loop.rest)) none) ∙ b.loop.invariant.1)
+    c.flip-alt.ensures
+    ∙ ap flipped (sym (ap (cleared_all (bits_of b.loop.rest)) (drop_end m b.loop.i (omega arith))) ∙ b.loop.invariant.1)
 
 pub old_head_spec : {M : Type 1} → statement M
 old_head_spec =

@@ -1,12 +1,11 @@
 use native.Mathlib.Omega.{arith}
 use Prim.Native.Nat.{ℕ, ◌+◌, ◌-◌, ◌≤◌}
 use mathlib.Core.Path.{◌≡◌, refl, sym, ap, ◌∙◌}
-use lib.ListN.{drop, drop_of_length-le}
-use Rattle.header.specs.proved.HeaderCode.{bits_of}
-use Rattle.header.specs.Header.{marked}
-use Rattle.leaf.specs.proved.LeafLaws.{leaf_in}
+use lib.ListN.{drop}
+use Rattle.header.specs.Header.{bits_of, marked}
+use Rattle.leaf.specs.Leaf.{leaf_in}
 use Rattle.lists.specs.FullLists.{marked_from}
-use Rattle.split.specs.proved.Heads.{marked_next}
+use Rattle.split.specs.Heads.{drop_end, marked_next}
 use Rattle.split.proofs.heads.upper_head.Statement.{statement}
 use Rattle.split.proofs.heads.upper_head.Tie as tie
 
@@ -34,7 +33,7 @@ returns c =
     let b = c.before in
     let a = b.before.before.before.args in
     sym (ap (marked_from (leaf_in a.leaf.now) (bits_of b.loop.head) (7 + b.loop.i))
-    (drop_of_length-le a.moved.now {i = b.loop.i} (omega arith)))
+    (drop_end a.moved.now b.loop.i (omega arith)))
     ∙ b.loop.invariant.1
 
 pub upper_head_spec : {M : Type 1} → statement M

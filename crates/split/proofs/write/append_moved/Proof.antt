@@ -2,11 +2,11 @@ use native.Mathlib.Omega.{arith}
 use mathlib.Core.Path.{◌≡◌, refl, ap, ◌∙◌}
 use Prim.Native.Nat.{◌+◌, ◌-◌, ◌*◌, ◌≤◌}
 use lib.ListN.{length, drop}
-use Rattle.leaf.specs.proved.LeafLaws.{leaf_in}
-use Rattle.steps.specs.Shapes.{stores_from}
+use Rattle.leaf.specs.Leaf.{leaf_in}
+use Rattle.steps.specs.Stores.{stores_from}
 use Rattle.lists.specs.FullLists.{entry_words}
-use Rattle.emit.specs.proved.Appended.{appended, appended_length}
-use Rattle.split.specs.proved.SplitStores.{entries_start, entries_next, entries_end}
+use Rattle.emit.specs.Appended.{appended, appended_length}
+use Rattle.split.specs.Stores.{entries_start, entries_next, entries_end}
 use Rattle.split.proofs.write.append_moved.Statement.{statement}
 use Rattle.split.proofs.write.append_moved.Tie as tie
 

@@ -4,7 +4,7 @@ use mathlib.Core.List.{[], ◌∷◌}
 use mathlib.Core.Path.{refl, ap, ◌∙◌}
 use Prim.Native.Nat.{ℕ, ◌+◌}
 use Rattle.steps.specs.declared.Step.TheVariants.{Store}
-use Rattle.emit.specs.proved.Appended.{appended, step_first, step_more}
+use Rattle.emit.specs.Appended.{appended, step_first, step_more}
 use Rattle.split.proofs.write.append_pair.Statement.{statement}
 use Rattle.split.proofs.write.append_pair.Tie as tie
 

@@ -2,9 +2,9 @@ use native.Mathlib.Omega.{arith}
 use mathlib.Core.Path.{◌≡◌, refl, ap, ◌∙◌}
 use Prim.Native.Nat.{◌+◌, ◌-◌, ◌≤◌}
 use lib.ListN.{length, length-set, replicate}
-use Rattle.steps.specs.Shapes.{stores_from}
-use Rattle.emit.specs.proved.Appended.{appended}
-use Rattle.split.specs.proved.SplitStores.{zeros_start, zeros_next, zeros_end}
+use Rattle.steps.specs.Stores.{stores_from}
+use Rattle.emit.specs.Appended.{appended}
+use Rattle.split.specs.Stores.{zeros_start, zeros_next, zeros_end}
 use Rattle.split.proofs.write.append_zeros.Statement.{statement}
 use Rattle.split.proofs.write.append_zeros.Tie as tie
 

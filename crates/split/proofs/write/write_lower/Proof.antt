@@ -3,9 +3,9 @@ use mathlib.Core.List.{[], ◌∷◌, ◌++◌}
 use mathlib.Core.Path.{refl, ap, ap₂, ◌∙◌}
 use Prim.Native.Nat.{ℕ, ◌+◌}
 use lib.ListN.{replicate}
-use Rattle.steps.specs.Shapes.{stores_from}
-use Rattle.emit.specs.proved.Appended.{appended}
-use Rattle.split.specs.proved.SplitStores.{stores_more}
+use Rattle.steps.specs.Stores.{stores_from}
+use Rattle.emit.specs.Appended.{appended}
+use Rattle.split.specs.Stores.{stores_more}
 use Rattle.split.proofs.write.write_lower.Statement.{statement}
 use Rattle.split.proofs.write.write_lower.Tie as tie
 

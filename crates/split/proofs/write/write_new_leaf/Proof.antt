@@ -1,12 +1,12 @@
 use borrow.Author.Rules.{rules}
 use mathlib.Core.Path.{ap, ◌∙◌}
 use Prim.Native.Nat.{ℕ, ◌+◌, ◌*◌}
-use Rattle.header.specs.proved.HeaderCode.{bits_of}
-use Rattle.leaf.specs.proved.LeafLaws.{leaf_in}
-use Rattle.steps.specs.Shapes.{stores_from}
+use Rattle.header.specs.Header.{bits_of}
+use Rattle.leaf.specs.Leaf.{leaf_in}
+use Rattle.steps.specs.Stores.{stores_from}
 use Rattle.lists.specs.FullLists.{new_words}
-use Rattle.emit.specs.proved.Appended.{appended, start_place}
-use Rattle.split.specs.proved.SplitStores.{new_leaf_lem}
+use Rattle.emit.specs.Appended.{appended, start_place}
+use Rattle.split.specs.Stores.{new_leaf_lem}
 use Rattle.split.proofs.write.write_new_leaf.Statement.{statement}
 use Rattle.split.proofs.write.write_new_leaf.Tie as tie
 

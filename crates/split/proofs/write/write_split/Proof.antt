@@ -4,15 +4,13 @@ use mathlib.Core.Path.{sym, ap, ◌∙◌}
 use Prim.Native.Nat.{ℕ, ◌+◌, ◌-◌, ◌*◌}
 use lib.ListN.{length}
 use mathlib.Core.List.{List}
-use Rattle.header.specs.Header.{alt_in}
-use Rattle.header.specs.proved.HeaderCode.{bits_of}
-use Rattle.header.specs.proved.HeaderLaws.{alt_lt}
-use Rattle.leaf.specs.Leaf.{Leaf}
-use Rattle.leaf.specs.proved.LeafLaws.{leaf_in}
+use Rattle.header.specs.Header.{alt_in, bits_of}
+use Rattle.header.specs.HeaderLaws.{alt_lt}
+use Rattle.leaf.specs.Leaf.{Leaf, leaf_in}
 use Rattle.lists.specs.Lists.{low_word, sib_place}
 use Rattle.lists.specs.FullLists.{moved_slots, new_words}
-use Rattle.emit.specs.proved.Appended.{start_place}
-use Rattle.split.specs.proved.SplitStores.{words_same, switched_same, split_whole}
+use Rattle.emit.specs.Appended.{start_place}
+use Rattle.split.specs.Stores.{words_same, switched_same, split_whole}
 use Rattle.split.proofs.write.write_split.Statement.{statement}
 use Rattle.split.proofs.write.write_split.Tie as tie
 

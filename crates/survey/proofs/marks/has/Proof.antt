@@ -3,7 +3,7 @@ use native.Mathlib.Omega.{arith}
 use mathlib.Core.Path.{ap, ◌∙◌}
 use Prim.Native.Nat.{ℕ}
 use lib.Dec.{eqb}
-use Rattle.survey.specs.proved.Marks.{word_has}
+use Rattle.survey.specs.Marks.{word_has}
 use Rattle.survey.proofs.marks.has.Statement.{statement}
 use Rattle.survey.proofs.marks.has.Tie as tie
 

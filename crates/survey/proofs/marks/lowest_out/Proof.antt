@@ -1,7 +1,7 @@
 use borrow.Author.Rules.{rules}
 use native.Mathlib.Omega.{arith}
 use mathlib.Core.Path.{sym}
-use Rattle.leaf.specs.proved.SearchLaws.{lowest_is, lowest_not}
+use Rattle.survey.specs.Marks.{out_found, out_missing}
 use Rattle.survey.proofs.marks.lowest_out.Statement.{statement}
 use Rattle.survey.proofs.marks.lowest_out.Tie as tie
 
@@ -9,5 +9,5 @@ pub lowest_out_spec : {M : Type 1} → statement M
 lowest_out_spec =
     tie.close
     (tie.spec (λ c κs. search rules)
-    (λ c. let z = c.before.first_out.ensures in sym (lowest_is _ _ _ (omega arith) z.below (z.at (omega arith))))
-    (λ c. let z = c.before.first_out.ensures in sym (lowest_not _ _ (λ t b. z.below t (omega arith)))))
+    (λ c. sym (out_found _ _ _ (omega arith) c.before.first_out.ensures (omega arith)))
+    (λ c. sym (out_missing _ _ _ (omega arith) c.before.first_out.ensures (omega arith))))

@@ -2,9 +2,9 @@ use borrow.Author.Rules.{rules}
 use mathlib.Core.Path.{ap, ◌∙◌}
 use mathlib.Core.Bool.{Bool, true}
 use Prim.Native.Nat.{ℕ}
-use Rattle.words.specs.Words.{upd}
+use Rattle.words.specs.Update.{upd}
 use Rattle.header.specs.Fields.{patched}
-use Rattle.survey.specs.proved.Marks.{is_in, in_with, in_none}
+use Rattle.survey.specs.Marks.{is_in, in_with, in_none}
 use Rattle.survey.proofs.walk.begun.Statement.{statement}
 use Rattle.survey.proofs.walk.begun.Tie as tie
 

@@ -4,13 +4,13 @@ use mathlib.Core.Path.{sym, ap, ◌∙◌}
 use mathlib.Core.List.{List}
 use Prim.Native.Nat.{ℕ, ◌≤◌}
 use lib.ListN.{set}
-use Rattle.words.specs.Words.{Bytes}
-use Rattle.header.specs.proved.HeaderCode.{bits_of}
-use Rattle.leaf.specs.proved.LeafLaws.{leaf_in}
-use Rattle.leaf.specs.proved.Tally.{twins}
-use Rattle.leaf.specs.proved.SearchSteps.{in_lock, key_small}
-use Rattle.survey.specs.proved.Walk.{state_in, moved, reached_by}
-use Rattle.survey.specs.proved.WalkTurns.{fault_near, fault_is, judged_on, judged_stop, few_entries, smallest_told}
+use Rattle.words.specs.WordLaws.{Bytes}
+use Rattle.header.specs.Header.{bits_of}
+use Rattle.leaf.specs.Leaf.{leaf_in}
+use Rattle.leaf.specs.Tally.{twins}
+use Rattle.leaf.specs.SearchSteps.{in_lock, key_small}
+use Rattle.survey.specs.Walk.{state_in, moved, reached_by}
+use Rattle.survey.specs.Turns.{fault_near, fault_is, judged_on, judged_stop, few_entries, smallest_told}
 use Rattle.survey.proofs.walk.judge.Statement.{statement}
 use Rattle.survey.proofs.walk.judge.Tie as tie
 

@@ -3,7 +3,7 @@ use native.Mathlib.Nat.{mod-eq_of_lt}
 use native.Mathlib.Omega.{arith}
 use mathlib.Core.Path.{sym, ap}
 use lib.ListN.{set}
-use lib.Seq.{set_out}
+use Rattle.survey.specs.Turns.{set_past}
 use Rattle.survey.proofs.walk.note_leaf.Statement.{statement}
 use Rattle.survey.proofs.walk.note_leaf.Tie as tie
 
@@ -16,7 +16,7 @@ returns c =
 returns-2 : tie.Need-returns-2
 returns-2 c =
     let a = c.before.before.before.args in
-    (sym (set_out a.leasts.now a.i _ (omega arith)), sym (set_out a.numbers.now a.i _ (omega arith)))
+    (sym (set_past a.leasts.now a.i _ (omega arith)), sym (set_past a.numbers.now a.i _ (omega arith)))
 
 pub note_leaf_spec : {M : Type 1} → statement M
 note_leaf_spec =

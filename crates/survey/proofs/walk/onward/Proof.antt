@@ -1,7 +1,7 @@
 use borrow.Author.Rules.{rules}
 use Prim.Native.Nat.{◌+◌}
 use mathlib.Core.Path.{ap, ◌∙◌}
-use Rattle.survey.specs.proved.Marks.{words_in, is_in, in_with}
+use Rattle.survey.specs.Marks.{words_in, is_in, in_with}
 use Rattle.survey.proofs.walk.onward.Statement.{statement}
 use Rattle.survey.proofs.walk.onward.Tie as tie
 

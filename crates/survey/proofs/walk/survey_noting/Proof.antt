@@ -1,6 +1,6 @@
 use borrow.Author.Rules.{rules}
 use mathlib.Core.Path.{◌∙◌}
-use Rattle.survey.specs.proved.Marks.{words_in}
+use Rattle.survey.specs.Marks.{words_in}
 use Rattle.survey.proofs.walk.survey_noting.Statement.{statement}
 use Rattle.survey.proofs.walk.survey_noting.Tie as tie
 

@@ -1,5 +1,5 @@
 use borrow.Author.Rules.{rules}
-use Rattle.survey.specs.proved.Marks.{is_in}
+use Rattle.survey.specs.Marks.{is_in}
 use Rattle.survey.proofs.walk.told.Statement.{statement}
 use Rattle.survey.proofs.walk.told.Tie as tie
 

@@ -5,15 +5,15 @@ use Prim.Native.Nat.{◌+◌, ◌-◌, ◌/◌, ◌≤◌}
 use mathlib.Core.Path.{◌≡◌, refl, sym, ap, ◌∙◌}
 use lib.ListN.{length, length-set}
 use Rattle.words.specs.Words.{reads}
-use Rattle.survey.specs.proved.Walk.{State, state_in}
-use Rattle.survey.specs.proved.WalkTurns.{WalkKept, kept_start, kept_turn, kept_on, kept_stop, kept_end, judged_goes}
+use Rattle.survey.specs.Walk.{State, state_in}
+use Rattle.survey.specs.Turns.{Kept, kept_start, kept_turn, kept_on, kept_stop, kept_end, judged_goes}
 use Rattle.survey.proofs.walk.walk_along.Statement.{statement}
 use Rattle.survey.proofs.walk.walk_along.Tie as tie
 
 abbrev invariant-loop : tie.invariant-loop
 invariant-loop image key stamps₀ met₀ leasts₀ numbers₀ n w₀ stamps met leasts numbers w =
     (w.leaves ≤ n) × (w.stage ≡ 0) × (length stamps ≡ length stamps₀) × (length met ≡ 4) × (length leasts ≡ length leasts₀)
-    × (length numbers ≡ length numbers₀) × WalkKept (reads image) n key w.leaves (state_in w met) leasts numbers
+    × (length numbers ≡ length numbers₀) × Kept (reads image) n key w.leaves (state_in w met) leasts numbers
 
 abbrev decreases-loop : tie.decreases-loop
 decreases-loop image key stamps₀ met₀ leasts₀ numbers₀ n w₀ stamps met leasts numbers w = n - w.leaves

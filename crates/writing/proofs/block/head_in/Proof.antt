@@ -1,6 +1,6 @@
 use borrow.Author.Rules.{rules}
 use mathlib.Core.Path.{◌∙◌}
-use Rattle.writing.specs.proved.BlockLaws.{head_in_lem}
+use Rattle.writing.specs.BlockLaws.{head_in_lem}
 use Rattle.writing.proofs.block.head_in_lem.Statement.{statement}
 use Rattle.writing.proofs.block.head_in_lem.Tie as tie
 

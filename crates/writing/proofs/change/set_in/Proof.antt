@@ -4,7 +4,7 @@ use mathlib.Core.Path.{sym, ap, ap₂, ◌∙◌}
 use Rattle.leaf.specs.declared.search.Slot.{Slot}
 use Rattle.lists.specs.Lists.{set_list}
 use Rattle.writing.specs.Writing.{made_as}
-use Rattle.writing.specs.proved.ChangeLaws.{by_slot, set_told}
+use Rattle.writing.specs.ChangeLaws.{by_slot, set_told}
 use Rattle.writing.proofs.change.set_in.Statement.{statement}
 use Rattle.writing.proofs.change.set_in.Tie as tie
 

@@ -4,17 +4,15 @@ use mathlib.Core.Bool.{Bool, not}
 use mathlib.Core.Path.{sym, ap, ◌∙◌, subst}
 use Prim.Native.Nat.{ℕ}
 use Rattle.words.specs.Words.{reads}
-use Rattle.leaf.specs.proved.LeafLaws.{Right}
-use Rattle.leaf.specs.Leaf.{occ_in}
+use Rattle.leaf.specs.Leaf.{Right, occ_in}
 use Rattle.leaf.specs.Search.{slot_of, lowest, lowest_vacant}
-use Rattle.survey.specs.proved.Walk.{State}
+use Rattle.survey.specs.Walk.{State}
 use Rattle.image.specs.Image.{blocks, leaves}
-use Rattle.index.specs.proved.SoundTest.{long_enough, noted_bounds, block_inside}
+use Rattle.index.specs.SoundTest.{long_enough, noted_bounds, block_inside}
 use Rattle.lists.specs.Lists.{head_in}
 use Rattle.writing.specs.Writing.{Outcome}
-use Rattle.writing.specs.Making.{put}
-use Rattle.writing.specs.proved.ChangeLaws.{noted_target, make_bad, make_short, make_unsound, make_judged}
-use Rattle.writing.specs.proved.PutLaws.{noted_free, target_right, target_met, put_by, put_judged}
+use Rattle.writing.specs.ChangeLaws.{noted_target}
+use Rattle.writing.specs.PutLaws.{noted_free, target_right, target_met, put_by, put_bad, put_short, put_unsound, put_judged}
 use Rattle.writing.proofs.put.put.Statement.{statement}
 use Rattle.writing.proofs.put.put.Tie as tie
 
@@ -24,7 +22,7 @@ put-in-requires c κs =
     let b = s.before.before.before in
     let a = b.before.before.before.args in
     let l = a.image.now in
-    let fine = sym b.bad-image.ensures ∙ s.before.before.if1.false in
+    let fine = sym b.bad_image_lem.ensures ∙ s.before.before.if1.false in
     let e = sym (ap (λ (st : State). st.stage) s.survey.ensures) ∙ c.before.if3.false in
     let t = ap (λ (st : State). st.target) s.survey.ensures in
     let n = (noted_bounds l a.key fine).target in (
@@ -44,7 +42,7 @@ returns-4 c =
     let a = b.before.before.before.args in
     let l = a.image.now in
     let list = a.list.now in
-    let fine = sym b.bad-image.ensures ∙ s.before.before.if1.false in
+    let fine = sym b.bad_image_lem.ensures ∙ s.before.before.if1.false in
     let e = sym (ap (λ (st : State). st.stage) s.survey.ensures) ∙ m.before.before.if3.false in
     let by : ℕ → (ℕ → Bool) → Outcome = λ t met.
     put_by (slot_of (leaves l t) a.key) (lowest_vacant (occ_in (head_in (reads l) t)) 14) (lowest (λ x. not (met x)) (blocks l) 0)
@@ -59,21 +57,20 @@ returns-4 c =
     (reads l) t a.key
     a.value
     list)
-    ∙ put_judged l list a.key a.value fine e
-    ∙ make_judged (put a.key a.value) l list fine (omega arith) a.key e
+    ∙ put_judged l list a.key a.value fine (omega arith) e
 
 pub put_spec : {M : Type 1} → statement M
 put_spec =
     tie.close
     (tie.spec (λ c κs. search rules)
     (λ c. let b = c.before in let a = b.before.before.before.args in
-    make_bad (put a.key a.value) a.image.now a.list.now (sym b.bad-image.ensures ∙ c.if1.true))
+    put_bad a.image.now a.list.now a.key a.value (sym b.bad_image_lem.ensures ∙ c.if1.true))
     (λ c. let b = c.before.before in let a = b.before.before.before.args in
-    make_short (put a.key a.value) a.image.now a.list.now (sym b.bad-image.ensures ∙ c.before.if1.false) (omega arith))
+    put_short a.image.now a.list.now a.key a.value (sym b.bad_image_lem.ensures ∙ c.before.if1.false) (omega arith))
     (λ c κs. let b = c.before.before in
-    long_enough b.before.before.before.args.image.now (sym b.bad-image.ensures ∙ c.before.if1.false))
+    long_enough b.before.before.before.args.image.now (sym b.bad_image_lem.ensures ∙ c.before.if1.false))
     (λ c. let s = c.before.before in let b = s.before.before.before in let a = b.before.before.before.args in
-    make_unsound (put a.key a.value) a.image.now a.list.now (sym b.bad-image.ensures ∙ s.before.before.if1.false) (omega arith)
-    a.key
+    put_unsound a.image.now a.list.now a.key a.value (sym b.bad_image_lem.ensures ∙ s.before.before.if1.false)
+    (omega arith)
     (λ e. c.if3.true (ap (λ (st : State). st.stage) s.survey.ensures ∙ e)))
     put-in-requires (λ c. search rules) returns-4)

@@ -4,18 +4,18 @@ use mathlib.Core.Bool.{not}
 use mathlib.Core.Path.{sym, ap, ◌∙◌}
 use Prim.Native.Nat.{ℕ}
 use Rattle.words.specs.Words.{reads}
-use Rattle.header.specs.proved.HeaderCode.{bits_of}
+use Rattle.header.specs.Header.{bits_of}
 use Rattle.leaf.specs.Leaf.{occ_in}
 use Rattle.leaf.specs.Search.{lowest, lowest_vacant}
-use Rattle.leaf.specs.proved.SearchLaws.{vacant_at}
+use Rattle.leaf.specs.SearchLaws.{vacant_at}
 use Rattle.leaf.specs.declared.search.Slot.{Slot}
 use Rattle.leaf.specs.declared.search.Slot.TheVariants.{Missing}
-use Rattle.survey.specs.proved.Marks.{blocks_in, is_in}
+use Rattle.survey.specs.Marks.{blocks_in, is_in}
 use Rattle.image.specs.Image.{blocks, leaves}
 use Rattle.lists.specs.Lists.{put_at}
-use Rattle.lists.specs.proved.Put.{none_vacant}
+use Rattle.lists.specs.Put.{none_vacant}
 use Rattle.writing.specs.Writing.{outcome}
-use Rattle.writing.specs.proved.PutLaws.{put_by}
+use Rattle.writing.specs.PutLaws.{put_by}
 use Rattle.writing.proofs.put.put_absent.Statement.{statement}
 use Rattle.writing.proofs.put.put_absent.Tie as tie
 

@@ -6,9 +6,9 @@ use Rattle.leaf.specs.Leaf.{occ_in}
 use Rattle.leaf.specs.Search.{lowest, lowest_vacant}
 use Rattle.leaf.specs.declared.search.Slot.{Slot}
 use Rattle.image.specs.Image.{blocks}
-use Rattle.survey.specs.proved.Marks.{blocks_in, is_in}
+use Rattle.survey.specs.Marks.{blocks_in, is_in}
 use Rattle.lists.specs.Lists.{head_in}
-use Rattle.writing.specs.proved.PutLaws.{put_by}
+use Rattle.writing.specs.PutLaws.{put_by}
 use Rattle.writing.proofs.put.put_in.Statement.{statement}
 use Rattle.writing.proofs.put.put_in.Tie as tie
 

@@ -1,5 +1,5 @@
 use borrow.Author.Rules.{rules}
-use Rattle.survey.specs.proved.Marks.{four_in}
+use Rattle.survey.specs.Marks.{four_in}
 use Rattle.survey.proofs.marks.Marks.of.Statement.{statement}
 use Rattle.survey.proofs.marks.Marks.of.Tie as tie
 

@@ -1,1 +1,0 @@
-// Theory only: all of it stands in specs/.

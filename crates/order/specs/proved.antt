@@ -1,2 +1,0 @@
--- What the code promises (`Ordered`, by image's `slots_from`), and the laws of putting in one slot more.
-pub mod Insertion

@@ -1,2 +1,0 @@
--- What every result that a contract allows tells.
-pub mod Promised

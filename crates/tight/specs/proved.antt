@@ -1,2 +1,0 @@
--- The run, computed.
-pub mod Tight

@@ -1,4 +1,0 @@
--- The survey says sound exactly when the image is, and its notes are right.
-pub mod Passed
-pub mod Notes
-pub mod Verdict
