@@ -10,25 +10,25 @@ use Rattle.header.specs.HeaderCode.{mix_start, mix_byte, mix_end}
 use Rattle.header.proofs.fingerprint_at.Statement.{statement}
 use Rattle.header.proofs.fingerprint_at.Tie as tie
 
-abbrev invariant-loop : tie.invariant-loop
-invariant-loop bytes place mix₀ i₀ mix i =
+abbrev invariant-loop-i : tie.invariant-loop-i
+invariant-loop-i bytes place mix₀ i₀ mix i =
     (i ≤ 8) × (bit_xor mix (xor_of_bytes (8 - i) (word_at bytes place / 256 ^ i)) ≡ fingerprint_of (word_at bytes place))
 
-abbrev decreases-loop : tie.decreases-loop
-decreases-loop bytes place mix₀ i₀ mix i = 8 - i
+abbrev decreases-loop-i : tie.decreases-loop-i
+decreases-loop-i bytes place mix₀ i₀ mix i = 8 - i
 
 pub fingerprint_at_spec : {M : Type 1} → statement M
 fingerprint_at_spec =
     tie.close
-    (tie.spec invariant-loop decreases-loop
+    (tie.spec invariant-loop-i decreases-loop-i
     (λ c. let a = c.args in (omega arith, rw (div-one (word_at a.bytes.now a.place)) (mix_start _)))
     (λ c. omega arith)
     (λ c. omega arith)
     (λ c. omega arith)
     (λ c. omega arith)
-    (λ c. let k = c.before.before in let a = k.before.args in let l = k.loop in (
+    (λ c. let k = c.before.before in let a = k.before.args in let l = k.loop-i in (
       omega arith,
-      mix_byte a.bytes.now a.place l.i l.mix _ (λ i. omega (arith, c.shared-slice-known.given i)) (omega arith) refl
+      mix_byte a.bytes.now a.place l.i l.mix _ (λ i. omega (arith, c.shared_slice_known-1.given i)) (omega arith) refl
           ∙ l.invariant.1,
     ))
-    (λ c. let l = c.before.loop in sym (mix_end l.mix _ l.i (omega arith)) ∙ l.invariant.1))
+    (λ c. let l = c.before.loop-i in sym (mix_end l.mix _ l.i (omega arith)) ∙ l.invariant.1))

@@ -12,4 +12,4 @@ fingerprint_spec =
     (λ c. let a = c.before.before.args in
     rw c.get.ensures (fingerprint_low a.self.low a.self.high a.s (omega arith) (omega arith) (omega arith)))
     (λ c. let a = c.before.before.args in
-    rw c.get2.ensures (fingerprint_high a.self.low a.self.high a.s (omega arith) (omega arith) (omega arith))))
+    rw c.get-else-s-lt6.ensures (fingerprint_high a.self.low a.self.high a.s (omega arith) (omega arith) (omega arith))))

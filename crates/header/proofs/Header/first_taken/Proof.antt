@@ -10,6 +10,6 @@ first_taken_spec =
     (tie.spec
     (λ c κs. search rules)
     (λ c. let o = c.before in let a = o.before.args.self in
-    first_taken a.low a.high o.lowest_one.result (omega arith) o.lowest_one.ensures (omega arith))
+    first_taken a.low a.high o.lowest_one-s.result (omega arith) o.lowest_one-s.ensures (omega arith))
     (λ c. let o = c.before in let a = o.before.args.self in
-    none_taken a.low a.high o.lowest_one.result (omega arith) o.lowest_one.ensures (omega arith)))
+    none_taken a.low a.high o.lowest_one-s.result (omega arith) o.lowest_one-s.ensures (omega arith)))

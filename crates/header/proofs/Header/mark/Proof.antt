@@ -10,8 +10,8 @@ mark_spec =
     (tie.spec (λ c κs. search rules) (λ c. search rules) (λ c. search rules) (λ c κs. search rules) (λ c. search rules)
     (λ c. search rules) (λ c κs. search rules)
     (λ c. let a = c.before.before.before.args in
-    rw (c.replace2.ensures, c.before.before.replace.ensures)
+    rw (c.replace.ensures, c.before.before.replace-bits.ensures)
     (marked_low a.self.low a.self.high a.s (omega arith) (omega arith) a.fp (omega arith)))
     (λ c. let a = c.before.before.before.args in
-    rw (c.replace3.ensures, c.before.before.replace.ensures)
+    rw (c.replace-else-s-lt6.ensures, c.before.before.replace-bits.ensures)
     (marked_high a.self.low a.self.high a.s (omega arith) (omega arith) a.fp (omega arith))))
