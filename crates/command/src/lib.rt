@@ -12,7 +12,7 @@ use reader::read_field;
 pub use reader::{Reader, read_line};
 
 // What a line says. `Malformed` is a line that spells no command.
-#[derive(Drop)]
+#[derive(Clone, Copy)]
 pub enum Command {
     Put(u64, u64),
     Set(u64, u64),
@@ -23,21 +23,21 @@ pub enum Command {
 }
 
 // What reading a line of the input finds: its command and the place behind its line end.
-#[derive(Drop)]
+#[derive(Clone, Copy)]
 pub enum Next {
     Line(Command, usize),
     End,
 }
 
 // What reading a field finds: its number and the place where the field ends.
-#[derive(Drop)]
+#[derive(Clone, Copy)]
 pub enum Field {
     Number(u64, usize),
     Nothing,
 }
 
 // The key and the value of a put or a set.
-#[derive(Drop)]
+#[derive(Clone, Copy)]
 enum Pair {
     Both(u64, u64),
     Nothing,

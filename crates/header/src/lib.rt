@@ -12,7 +12,7 @@ ghost use Rattle.header.specs.HeaderCode.{FirstTaken};
 
 use crate::bits::{get, lowest_one, replace};
 
-#[derive(Drop)]
+#[derive(Clone, Copy)]
 pub struct Header {
     pub low: u64,
     pub high: u64,

@@ -11,7 +11,7 @@ use leaf::search::{Slot, find_slot, value_at};
 use machine::bad_image;
 use survey::walk::survey;
 
-#[derive(Drop)]
+#[derive(Clone, Copy)]
 pub enum Found {
     Value(u64),
     BadImage,

@@ -15,7 +15,7 @@ use order::order_from;
 use survey::along::next_block;
 use survey::walk::survey;
 
-#[derive(Drop)]
+#[derive(Clone, Copy)]
 pub enum Listed {
     Count(u64),
     BadImage,

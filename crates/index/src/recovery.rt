@@ -9,7 +9,7 @@ use leaf::place::Leaf;
 use machine::bad_image;
 use survey::walk::survey_noting;
 
-#[derive(Drop)]
+#[derive(Clone, Copy)]
 pub enum Recovered {
     Leaves(u64, u64),
     BadImage,

@@ -2,7 +2,7 @@
 // the steps of a list, which name them.
 ghost use Rattle.std.specs.Prelude.{◌≡◌, cond, ◌+◌, ◌*◌, ◌/◌, ◌≤◌, ◌<◌, ltb};
 
-#[derive(Drop)]
+#[derive(Clone, Copy)]
 pub struct Leaf;
 
 impl Leaf {

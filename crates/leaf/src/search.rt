@@ -8,7 +8,7 @@ ghost use Rattle.leaf.specs.Search.{holds_key, slot_of, lowest_vacant};
 use crate::place::Leaf;
 use header::{Header, fingerprint_of};
 
-#[derive(Drop)]
+#[derive(Clone, Copy)]
 pub enum Slot {
     At(usize),
     Missing,

@@ -13,7 +13,7 @@ use words::LARGEST;
 
 // How many slots are occupied, and have a wrong fingerprint; the smallest key and the largest; and of each slot a bit, whether its
 // fingerprint had come before, that of the last slot lowest.
-#[derive(Drop)]
+#[derive(Clone, Copy)]
 pub struct Tally {
     pub entries: u64,
     pub wrong: u64,

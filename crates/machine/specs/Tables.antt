@@ -93,7 +93,7 @@ module _ (s : Steps) (i : ℕ) (t : List ℕ) where
       let c : l < length t = omega (arith, length-set t k 1) in
       elim (ℕ_discrete l k) [
         | yes q ↦ rw (add-one i, ← e, q) (get_or-set_same t k 1 0 (omega (arith, q))
-            ∙ sym (ap bit (or_right (had_back s i k) (eqb k k) (eq-eqb k k refl))))
+            ∙ sym (ap bit (or_right (had_back s i l) (eqb k k) (eq-eqb k k refl))))
         | no q ↦ rw (add-one i, ← e, ne_eqb k l (λ r. q (sym r)), or_none) (get_or-set_other t k l 1 0 q ∙ h l c)
       ]
   backs_next fence e h l b = rw (add-one i, ← e, or_none) (h l b)

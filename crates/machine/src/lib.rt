@@ -14,7 +14,7 @@ pub use crate::refusals::bad_image;
 use crate::refusals::{bad_arrivals, bad_list};
 
 // What run and cut answer.
-#[derive(Drop)]
+#[derive(Clone, Copy)]
 pub enum Ran {
     Done,
     BadImage,

@@ -7,7 +7,7 @@ ghost use Rattle.number.specs.Reading.{digit_of, grown, pushed, spelled_by};
 use words::{LARGEST, wide};
 
 // The number that bytes spell, or that they spell none.
-#[derive(Drop)]
+#[derive(Clone, Copy)]
 pub enum Number {
     Is(u64),
     Not,

@@ -3,7 +3,7 @@
 
 // "A step is a store of one word at a place, a write-back of one line, or a fence."
 // The place of a store is the number of its word, an eighth of the byte place that stands in the list.
-#[derive(Drop)]
+#[derive(Clone, Copy)]
 pub enum Step {
     Store(u64, u64),
     WriteBack(u64),
@@ -14,8 +14,8 @@ pub enum Step {
 pub const LIST_ROOM: usize = 112;
 
 // "Line writes and word writes are kept apart: a line write is a write-back step, a word write a store step."
-#[derive(Drop)]
+#[derive(Clone, Copy)]
 pub struct LineWrites(pub u64);
 
-#[derive(Drop)]
+#[derive(Clone, Copy)]
 pub struct WordWrites(pub u64);

@@ -25,7 +25,7 @@ pub fn mark(words: &mut [u64], block: usize)
 }
 
 // A set as a value.
-#[derive(Drop)]
+#[derive(Clone, Copy)]
 pub struct Marks {
     pub a: u64,
     pub b: u64,

@@ -19,7 +19,7 @@ use leaf::tally::{Tally, has_twins, tally_of};
 // Where the walk is and what it has noted, but for the blocks met, which stand in four lent words. The stage is 0 while it goes on,
 // 1 where the chain has ended, and else the fault: request [1]'s numbers, 31 to 37. All are numbers, so that none is copied with
 // padding.
-#[derive(Drop)]
+#[derive(Clone, Copy)]
 struct Progress {
     stage: u64,
     at: u64,
@@ -32,7 +32,7 @@ struct Progress {
 }
 
 // What the walk tells: where it ended, and all that it has noted.
-#[derive(Drop)]
+#[derive(Clone, Copy)]
 pub struct Walk {
     pub stage: u64,
     pub at: u64,

@@ -5,7 +5,7 @@ ghost use Rattle.writing.specs.Writing.{made_as};
 use writing::Made;
 
 #[repr(C)]
-#[derive(Drop)]
+#[derive(Clone, Copy)]
 pub struct HutMade {
     pub answer: u64,
     pub steps: u64,

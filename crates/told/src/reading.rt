@@ -7,7 +7,7 @@ use index::listing::Listed;
 use index::recovery::Recovered;
 
 #[repr(C)]
-#[derive(Drop)]
+#[derive(Clone, Copy)]
 pub struct HutFound {
     pub answer: u64,
     pub value: u64,
@@ -37,7 +37,7 @@ pub fn told_found(found: Found) -> HutFound
 }
 
 #[repr(C)]
-#[derive(Drop)]
+#[derive(Clone, Copy)]
 pub struct HutListed {
     pub answer: u64,
     pub count: u64,
@@ -63,7 +63,7 @@ pub fn told_listed(listed: Listed) -> HutListed
 }
 
 #[repr(C)]
-#[derive(Drop)]
+#[derive(Clone, Copy)]
 pub struct HutRecovered {
     pub answer: u64,
     pub leaves: u64,

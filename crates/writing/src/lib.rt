@@ -8,7 +8,7 @@ pub mod put;
 use steps::{LineWrites, WordWrites};
 
 // What put, set and del answer: the steps made, the line writes and the word writes among them, or why none were.
-#[derive(Drop)]
+#[derive(Clone, Copy)]
 pub enum Made {
     Steps(u64, LineWrites, WordWrites),
     BadImage,

@@ -6,22 +6,22 @@ use Rattle.machine.specs.Fits.{passed, all_fit, can_be_taken}
 use Rattle.machine.proofs.cut.Statement.{statement}
 use Rattle.machine.proofs.cut.Tie as tie
 
-bad-arrivals-requires : tie.Need-bad-arrivals-requires
+bad-arrivals-requires : tie.Need-bad_arrivals-requires
 bad-arrivals-requires c κs =
     let b = c.before.before.before in
     let a = b.before.before.before.before.args in
     passed (length a.image.now) a.list.now a.n
-    (sym b.bad_image_lem.ensures ∙ c.before.before.if1.false)
-    (sym c.before.bad-list.ensures ∙ c.if2.false)
+    (sym b.bad_image.ensures ∙ c.before.before.if-bad_image.false)
+    (sym c.before.bad_list.ensures ∙ c.if-bad_list.false)
 
-cut-steps-requires : tie.Need-cut-steps-requires
+cut-steps-requires : tie.Need-cut_steps-requires
 cut-steps-requires c κs =
     let e = c.before.before.before in
     let b = e.before.before.before in
     let a = b.before.before.before.before.args in
     let P = passed (length a.image.now) a.list.now a.n
-    (sym b.bad_image_lem.ensures ∙ e.before.before.if1.false)
-    (sym e.before.bad-list.ensures ∙ e.if2.false) in
+    (sym b.bad_image.ensures ∙ e.before.before.if-bad_image.false)
+    (sym e.before.bad_list.ensures ∙ e.if-bad_list.false) in
     (can_be_taken (length a.image.now) a.list.now a.n P, all_fit (length a.image.now) a.list.now a.n P)
 
 pub cut_spec : {M : Type 1} → statement M
@@ -29,19 +29,19 @@ cut_spec =
     tie.close
     (tie.spec
     (λ c κs. search rules)
-    (λ c. rw (sym c.before.bad_image_lem.ensures ∙ c.if1.true) (refl, refl))
+    (λ c. rw (sym c.before.bad_image.ensures ∙ c.if-bad_image.true) (refl, refl))
     (λ c κs. search rules)
     (λ c. rw (
-      sym c.before.before.before.bad_image_lem.ensures ∙ c.before.before.if1.false,
-      sym c.before.bad-list.ensures ∙ c.if2.true,
+      sym c.before.before.before.bad_image.ensures ∙ c.before.before.if-bad_image.false,
+      sym c.before.bad_list.ensures ∙ c.if-bad_list.true,
     ) (refl, refl))
     bad-arrivals-requires
     (λ c.
     let e = c.before.before in
     rw (
-      sym e.before.before.before.bad_image_lem.ensures ∙ e.before.before.if1.false,
-      sym e.before.bad-list.ensures ∙ e.if2.false,
-      sym c.before.bad-arrivals.ensures ∙ c.if3.true,
+      sym e.before.before.before.bad_image.ensures ∙ e.before.before.if-bad_image.false,
+      sym e.before.bad_list.ensures ∙ e.if-bad_list.false,
+      sym c.before.bad_arrivals.ensures ∙ c.if-bad_arrivals.true,
     ) (refl, refl))
     cut-steps-requires
     (λ c. search rules)
@@ -49,7 +49,7 @@ cut_spec =
     let f = c.before.before.before.before in
     let e = f.before.before in
     rw (
-      sym e.before.before.before.bad_image_lem.ensures ∙ e.before.before.if1.false,
-      sym e.before.bad-list.ensures ∙ e.if2.false,
-      sym f.before.bad-arrivals.ensures ∙ f.if3.false,
-    ) (refl, c.before.before.cut-steps.ensures)))
+      sym e.before.before.before.bad_image.ensures ∙ e.before.before.if-bad_image.false,
+      sym e.before.bad_list.ensures ∙ e.if-bad_list.false,
+      sym f.before.bad_arrivals.ensures ∙ f.if-bad_arrivals.false,
+    ) (refl, c.before.before.cut_steps.ensures)))

@@ -6,14 +6,14 @@ use Rattle.machine.specs.Fits.{passed, all_fit}
 use Rattle.machine.proofs.run.Statement.{statement}
 use Rattle.machine.proofs.run.Tie as tie
 
-run-steps-requires : tie.Need-run-steps-requires
+run-steps-requires : tie.Need-run_steps-requires
 run-steps-requires c κs =
     let e = c.before in
     let b = e.before.before.before in
     let a = b.before.before.before.args in
     let P = passed (length a.image.now) a.list.now a.n
-    (sym b.bad_image_lem.ensures ∙ e.before.before.if1.false)
-    (sym e.before.bad-list.ensures ∙ e.if2.false) in
+    (sym b.bad_image.ensures ∙ e.before.before.if-bad_image.false)
+    (sym e.before.bad_list.ensures ∙ e.if-bad_list.false) in
     (P.long, all_fit (length a.image.now) a.list.now a.n P)
 
 pub run_spec : {M : Type 1} → statement M
@@ -21,17 +21,17 @@ run_spec =
     tie.close
     (tie.spec
     (λ c κs. search rules)
-    (λ c. rw (sym c.before.bad_image_lem.ensures ∙ c.if1.true) (refl, refl))
+    (λ c. rw (sym c.before.bad_image.ensures ∙ c.if-bad_image.true) (refl, refl))
     (λ c κs. search rules)
     (λ c. rw (
-      sym c.before.before.before.bad_image_lem.ensures ∙ c.before.before.if1.false,
-      sym c.before.bad-list.ensures ∙ c.if2.true,
+      sym c.before.before.before.bad_image.ensures ∙ c.before.before.if-bad_image.false,
+      sym c.before.bad_list.ensures ∙ c.if-bad_list.true,
     ) (refl, refl))
     run-steps-requires
     (λ c. search rules)
     (λ c.
     let e = c.before.before.before.before in
     rw (
-      sym e.before.before.before.bad_image_lem.ensures ∙ e.before.before.if1.false,
-      sym e.before.bad-list.ensures ∙ e.if2.false,
+      sym e.before.before.before.bad_image.ensures ∙ e.before.before.if-bad_image.false,
+      sym e.before.bad_list.ensures ∙ e.if-bad_list.false,
     ) (refl, c.before.before.run_steps.ensures)))

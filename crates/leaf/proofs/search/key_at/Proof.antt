@@ -8,6 +8,8 @@ use Rattle.leaf.proofs.search.key_at.Tie as tie
 pub key_at_spec : {M : Type 1} → statement M
 key_at_spec =
     tie.close
-    (tie.spec (λ c κs. search rules) (λ c κs. search rules)
+    (tie.spec
+    (λ c κs. search rules)
+    (λ c κs. search rules)
     (λ c. let a = c.before.before.before.args in
-    c.word_at.ensures ∙ ap (word_at a.leaf.now) c.before.key-place.ensures ∙ in_key a.leaf.now a.s))
+    c.word_at.ensures ∙ ap (word_at a.leaf.now) c.before.key_place.ensures ∙ in_key a.leaf.now a.s))

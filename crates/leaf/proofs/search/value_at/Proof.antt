@@ -8,6 +8,8 @@ use Rattle.leaf.proofs.search.value_at.Tie as tie
 pub value_at_spec : {M : Type 1} → statement M
 value_at_spec =
     tie.close
-    (tie.spec (λ c κs. search rules) (λ c κs. search rules)
+    (tie.spec
+    (λ c κs. search rules)
+    (λ c κs. search rules)
     (λ c. let a = c.before.before.before.args in
-    c.word_at.ensures ∙ ap (word_at a.leaf.now) c.before.value-place.ensures ∙ in_val a.leaf.now a.s))
+    c.word_at.ensures ∙ ap (word_at a.leaf.now) c.before.value_place.ensures ∙ in_val a.leaf.now a.s))

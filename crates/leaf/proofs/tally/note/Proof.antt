@@ -9,7 +9,7 @@ returns c =
     let st = w.before.before in
     let a = st.args in
     noted_is a.print a.key a.hit a.t _ _ _ _ st.requires.2
-    w.one-if.ensures.0
+    w.one_if.ensures.0
     c.before.before.smaller.ensures
     c.before.larger.ensures
 
@@ -17,5 +17,11 @@ pub note_spec : {M : Type 1} → statement M
 note_spec =
     tie.close
     (tie.spec
-    (λ c. search rules) (λ c κs. search rules) (λ c. search rules) (λ c κs. search rules)
-    (λ c κs. search rules) (λ c. search rules) (λ c. search rules) returns)
+    (λ c. search rules)
+    (λ c κs. search rules)
+    (λ c. search rules)
+    (λ c κs. search rules)
+    (λ c κs. search rules)
+    (λ c. search rules)
+    (λ c. search rules)
+    returns)

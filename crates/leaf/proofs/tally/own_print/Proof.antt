@@ -9,7 +9,9 @@ use Rattle.leaf.proofs.tally.own_print.Tie as tie
 pub own_print_spec : {M : Type 1} → statement M
 own_print_spec =
     tie.close
-    (tie.spec (λ c κs. search rules) (λ c κs. search rules)
+    (tie.spec
+    (λ c κs. search rules)
+    (λ c κs. search rules)
     (λ c. let a = c.before.before.before.args in
-    c.fingerprint-at.ensures
-    ∙ ap fingerprint_of (ap (word_at a.leaf.now) c.before.key-place.ensures ∙ in_key a.leaf.now a.s)))
+    c.fingerprint_at.ensures
+    ∙ ap fingerprint_of (ap (word_at a.leaf.now) c.before.key_place.ensures ∙ in_key a.leaf.now a.s)))

@@ -11,7 +11,9 @@ use Rattle.leaf.proofs.tally.print_at.Tie as tie
 pub print_at_spec : {M : Type 1} → statement M
 print_at_spec =
     tie.close
-    (tie.spec (λ c. search rules) (λ c. search rules)
+    (tie.spec
+    (λ c. search rules)
+    (λ c. search rules)
     (λ c. let a = c.before.args in
-    sym (fingerprint_byte a.leaf.now 0 a.s (λ i. omega (arith, c.shared-slice-known.given i)) (omega arith) ∙ rw zero-add)
+    sym (fingerprint_byte a.leaf.now 0 a.s (λ i. omega (arith, c.shared_slice_known-1.given i)) (omega arith) ∙ rw zero-add)
     ∙ in_fp a.leaf.now (head_at a.leaf.now 0) refl a.s))

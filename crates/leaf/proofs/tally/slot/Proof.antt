@@ -16,17 +16,17 @@ note-requires c κs =
     let st = k.before.before.before.before.before.before in
     let a = st.args in (
       tells_few (leaf_in a.leaf.now) a.s a.t (omega arith) st.requires.4,
-      m.stamp.ensures.2,
-      k.before.own-print.ensures ∙ ap fingerprint_of (sym k.key-at.ensures),
+      m.stamp-hit.ensures.2,
+      k.before.own_print-own.ensures ∙ ap fingerprint_of (sym k.key_at-key.ensures),
     )
 
-pass-over-requires : tie.Need-pass-over-requires
+pass-over-requires : tie.Need-pass_over-requires
 pass-over-requires c κs =
     let st = c.before.before.before.before in
     let a = st.args in
     (tells_few (leaf_in a.leaf.now) a.s a.t (omega arith) st.requires.4).hits
 
-returns : tie.Need-returns
+returns : tie.Need-returns-then-occupied
 returns c =
     let m = c.before.before.before in
     let p = m.before.before in
@@ -34,27 +34,27 @@ returns c =
     let st = o.before.before.before in
     let a = st.args in (
       tells_taken (leaf_in a.leaf.now) a.s a.number a.stamps.now a.t st.requires.4
-          p.print-at.result p.before.key-at.result m.stamp.result c.note.result st.requires.5
-          (sym (o.occupied.ensures ∙ in_occ _ _ st.requires.2 _ (omega arith)) ∙ p.before.before.before.if1.true)
-          p.print-at.ensures
-          p.before.key-at.ensures
-          m.stamp.ensures.1
+          p.print_at-print.result p.before.key_at-key.result m.stamp-hit.result c.note.result st.requires.5
+          (sym (o.occupied.ensures ∙ in_occ _ _ st.requires.2 _ (omega arith)) ∙ p.before.before.before.if-occupied.true)
+          p.print_at-print.ensures
+          p.before.key_at-key.ensures
+          m.stamp-hit.ensures.1
           c.note.ensures,
-      stamped_taken (leaf_in a.leaf.now) a.number a.s a.stamps.now _ p.print-at.result st.requires.5
-          p.print-at.ensures
+      stamped_taken (leaf_in a.leaf.now) a.number a.s a.stamps.now _ p.print_at-print.result st.requires.5
+          p.print_at-print.ensures
           (omega arith)
-          m.stamp.ensures.0,
-      ap length m.stamp.ensures.0 ∙ length-set a.stamps.now p.print-at.result a.number,
+          m.stamp-hit.ensures.0,
+      ap length m.stamp-hit.ensures.0 ∙ length-set a.stamps.now p.print_at-print.result a.number,
     )
 
-returns-2 : tie.Need-returns-2
+returns-2 : tie.Need-returns
 returns-2 c =
     let o = c.before.before in
     let st = o.before.before.before in
     let a = st.args in
-    let v = sym (o.occupied.ensures ∙ in_occ _ _ st.requires.2 _ (omega arith)) ∙ c.before.if1.false in (
+    let v = sym (o.occupied.ensures ∙ in_occ _ _ st.requires.2 _ (omega arith)) ∙ c.before.if-occupied.false in (
       tells_vacant (leaf_in a.leaf.now) a.s a.number a.stamps.now a.t st.requires.4 _ v
-          c.pass-over.ensures,
+          c.pass_over.ensures,
       stamped_vacant (leaf_in a.leaf.now) a.number a.s a.stamps.now st.requires.5 v,
       refl,
     )
@@ -63,5 +63,13 @@ pub slot_spec : {M : Type 1} → statement M
 slot_spec =
     tie.close
     (tie.spec
-    (λ c κs. search rules) (λ c κs. search rules) (λ c κs. search rules) (λ c κs. search rules) (λ c κs. search rules) note-requires
-    (λ c. search rules) returns pass-over-requires returns-2)
+    (λ c κs. search rules)
+    (λ c κs. search rules)
+    (λ c κs. search rules)
+    (λ c κs. search rules)
+    (λ c κs. search rules)
+    note-requires
+    (λ c. search rules)
+    returns
+    pass-over-requires
+    returns-2)

@@ -11,4 +11,4 @@ count_at_spec =
     (λ c. search rules)
     (λ c κs. search rules)
     (λ c. search rules)
-    (λ c. rw (get_or-eq_default _ _ c.if1.false)))
+    (λ c. rw (get_or-eq_default _ _ c.if-at-table.false)))

@@ -14,6 +14,6 @@ mark_back_spec =
     (λ c. search rules)
     (λ c. search rules)
     (λ c. search rules)
-    (λ c. rw c.before.before.step.given.1)
-    (λ c. rw (c.before.before.step.given.1, set_out _ _ _ c.if1.false))
+    (λ c. rw c.before.in-WriteBack.is)
+    (λ c. rw (c.before.in-WriteBack.is, set_out _ _ _ c.if-at-table.false))
     (λ c. search rules))

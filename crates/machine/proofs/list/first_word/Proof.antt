@@ -9,10 +9,10 @@ first_word_spec =
     tie.close
     (tie.spec
     (λ c. search rules)
-    (λ c. let h = rw c.before.step.given.1 at c.before.before.before.requires in omega arith)
+    (λ c. let h = rw c.in-Store.is at c.before.requires in omega arith)
     (λ c. search rules)
-    (λ c. let h = rw c.before.step2.given.1 at c.before.before.before.requires in omega arith)
+    (λ c. let h = rw c.in-WriteBack.is at c.before.requires in omega arith)
     (λ c. search rules)
-    (λ c. rw c.before.step.given.1)
-    (λ c. rw c.before.step2.given.1)
+    (λ c. rw c.in-Store.is)
+    (λ c. rw c.in-WriteBack.is)
     (λ c. search rules))

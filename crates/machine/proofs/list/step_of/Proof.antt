@@ -9,6 +9,6 @@ unfolding decode
 step_of_spec =
     tie.close
     (tie.spec
-    (λ c. simp (lt-ltb _ _ c.if1.true))
-    (λ c. simp (le-ltb _ _ c.before.if1.false, lt-ltb _ _ c.if2.true))
-    (λ c. simp (le-ltb _ _ c.before.if1.false, le-ltb _ _ c.if2.false)))
+    (λ c. simp (lt-ltb _ _ c.if-a-lt4294967296.true))
+    (λ c. simp (le-ltb _ _ c.before.if-a-lt4294967296.false, lt-ltb _ _ c.if-a-lt8589934592.true))
+    (λ c. simp (le-ltb _ _ c.before.if-a-lt4294967296.false, le-ltb _ _ c.if-a-lt8589934592.false)))

@@ -12,6 +12,6 @@ arrives_now_spec =
     (λ c κs. search rules)
     (λ c. search rules)
     (λ c. search rules)
-    (λ c. rw (c.before.before.before.step.given.1, c.arrived-of.ensures, c.before.count_at.ensures))
+    (λ c. rw (c.before.before.in-Store.is, c.arrived_of.ensures, c.before.count_at-before.ensures))
     (λ c. search rules)
     (λ c. search rules))

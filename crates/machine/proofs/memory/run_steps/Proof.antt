@@ -10,38 +10,43 @@ use Rattle.machine.specs.Turns.{run_next, run_length}
 use Rattle.machine.proofs.memory.run_steps.Statement.{statement}
 use Rattle.machine.proofs.memory.run_steps.Tie as tie
 
-abbrev invariant-loop : tie.invariant-loop
-invariant-loop image₀ list n i₀ image i = (i ≤ n) × (image ≡ run store_word (step_at list) image₀ i)
+abbrev invariant-loop-i : tie.invariant-loop-i
+invariant-loop-i image₀ list n i₀ image i = (i ≤ n) × (image ≡ run store_word (step_at list) image₀ i)
 
-abbrev decreases-loop : tie.decreases-loop
-decreases-loop image₀ list n i₀ image i = n - i
+abbrev decreases-loop-i : tie.decreases-loop-i
+decreases-loop-i image₀ list n i₀ image i = n - i
 
-take-step-requires : tie.Need-take-step-requires invariant-loop decreases-loop
+take-step-requires : tie.Need-take_step-requires invariant-loop-i decreases-loop-i
 take-step-requires c κs =
     let b = c.before.before.before in
     let a = b.before.before.before in
     let s = step_at a.args.list.now in
-    rw (c.before.step-at.ensures, ap length b.loop.invariant.1 ∙ run_length s a.args.image.now b.loop.i)
-    (a.requires.1 b.loop.i (omega arith))
+    rw (c.before.step_at-step.ensures, ap length b.loop-i.invariant.1 ∙ run_length s a.args.image.now b.loop-i.i)
+    (a.requires.1 b.loop-i.i (omega arith))
 
-loop-again : tie.Need-loop-preserved invariant-loop decreases-loop
+loop-again : tie.Need-loop-i-preserved invariant-loop-i decreases-loop-i
 loop-again c =
     let b = c.before.before.before.before.before.before in
     let a = b.before.before.before.args in
-    let x = c.before.before.before.before.step-at in (
+    let x = c.before.before.before.before.step_at-step in (
       omega arith,
-      run_next (step_at a.list.now) b.loop.i x.result x.ensures a.image.now _ _ b.loop.invariant.1
+      run_next (step_at a.list.now) b.loop-i.i x.result x.ensures a.image.now _ _ b.loop-i.invariant.1
           c.before.before.take_step.ensures,
     )
 
 pub run_steps_spec : {M : Type 1} → statement M
 run_steps_spec =
     tie.close
-    (tie.spec invariant-loop decreases-loop (λ c. (omega arith, refl)) (λ c κs. omega arith) take-step-requires
-    (λ c. omega arith) (λ c. omega arith) loop-again
+    (tie.spec invariant-loop-i decreases-loop-i
+    (λ c. (omega arith, refl))
+    (λ c κs. omega arith)
+    take-step-requires
+    (λ c. omega arith)
+    (λ c. omega arith)
+    loop-again
     (λ c.
     let a = c.before.before.before.before.args in
-    ap length c.before.loop.invariant.1 ∙ run_length (step_at a.list.now) a.image.now c.before.loop.i)
+    ap length c.before.loop-i.invariant.1 ∙ run_length (step_at a.list.now) a.image.now c.before.loop-i.i)
     (λ c.
-    let q : c.before.loop.i ≡ c.before.before.before.before.args.n = omega arith in
-    rw q at c.before.loop.invariant.1))
+    let q : c.before.loop-i.i ≡ c.before.before.before.before.args.n = omega arith in
+    rw q at c.before.loop-i.invariant.1))

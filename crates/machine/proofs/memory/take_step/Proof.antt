@@ -10,17 +10,17 @@ take_step_spec =
     (tie.spec
     (λ c. search rules)
     (λ c.
-    let m = c.before.before.before in
-    let h = rw m.step.given.1 at m.before.before.before.requires in omega arith)
+    let m = c.before.before in
+    let h = rw m.in-Store.is at m.before.before.requires in omega arith)
     (λ c κs.
-    let m = c.before.before.before in
-    let h = rw m.step.given.1 at m.before.before.before.requires in omega arith)
+    let m = c.before.before in
+    let h = rw m.in-Store.is at m.before.before.requires in omega arith)
     (λ c. search rules)
     (λ c. search rules)
     (λ c. search rules)
     (λ c.
     let t = c.before.before.before.before in
-    rw (t.before.before.step.given.1, t.if1.true) c.before.before.set_word.ensures)
+    rw (t.before.in-Store.is, t.if-arrive.true) c.before.before.set_word.ensures)
     (λ c. search rules)
     (λ c. search rules)
     (λ c. search rules))

@@ -12,15 +12,15 @@ bad_arrivals_spec =
     (tie.spec
     (λ c.
     let a = c.before.before.before.args in
-    sym (arrivals_short a.size a.list.now a.n a.arrivals.now c.if1.true))
+    sym (arrivals_short a.size a.list.now a.n a.arrivals.now c.if-arrivals-size.true))
     (λ c κs.
     let st = c.before.before.before in
-    (can_be_taken st.args.size st.args.list.now st.args.n st.requires, omega (arith, c.if1.false, st.requires.small)))
+    (can_be_taken st.args.size st.args.list.now st.args.n st.requires, omega (arith, c.if-arrivals-size.false, st.requires.small)))
     (λ c.
     let st = c.before.before.before.before.before in
     let a = st.args in
-    rw (sym c.before.exceeds-made.ensures ∙ c.if2.true) at
-    (arrivals_judged a.size a.list.now a.n a.arrivals.now st.requires c.before.before.if1.false))
+    rw (sym c.before.exceeds_made.ensures ∙ c.if-exceeds_made.true) at
+    (arrivals_judged a.size a.list.now a.n a.arrivals.now st.requires c.before.before.if-arrivals-size.false))
     (λ c κs.
     let st = c.before.before.before.before.before in
     can_be_taken st.args.size st.args.list.now st.args.n st.requires)
@@ -28,6 +28,6 @@ bad_arrivals_spec =
     let e = c.before.before in
     let st = e.before.before.before.before in
     let a = st.args in
-    c.misses-settled.ensures
-    ∙ (rw (sym e.exceeds-made.ensures ∙ c.before.if2.false) at
-    (arrivals_judged a.size a.list.now a.n a.arrivals.now st.requires e.before.if1.false))))
+    c.misses_settled.ensures
+    ∙ (rw (sym e.exceeds_made.ensures ∙ c.before.if-exceeds_made.false) at
+    (arrivals_judged a.size a.list.now a.n a.arrivals.now st.requires e.before.if-arrivals-size.false))))

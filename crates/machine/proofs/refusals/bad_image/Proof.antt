@@ -9,6 +9,6 @@ unfolding bad_image
 bad_image_spec =
     tie.close
     (tie.spec
-    (λ c. simp (eq-eqb _ _ c.if1.true))
-    (λ c. simp (ne_eqb _ _ c.before.if1.false, lt-ltb _ _ c.if2.true))
-    (λ c. simp (ne_eqb _ _ c.before.if1.false, le-ltb _ _ c.if2.false)))
+    (λ c. simp (eq-eqb _ _ c.if-size-eq0.true))
+    (λ c. simp (ne_eqb _ _ c.before.if-size-eq0.false, lt-ltb _ _ c.if-size-gt65536.true))
+    (λ c. simp (ne_eqb _ _ c.before.if-size-eq0.false, le-ltb _ _ c.if-size-gt65536.false)))

@@ -10,8 +10,8 @@ unfolding bad_list
 bad_list_spec =
     tie.close
     (tie.spec
-    (λ c. rw (lt-ltb _ _ c.if1.true))
+    (λ c. rw (lt-ltb _ _ c.if-n-gt56.true))
     (λ c. search rules)
-    (λ c. rw (le-ltb _ _ c.before.if1.false, lt-ltb _ _ c.if2.true))
+    (λ c. rw (le-ltb _ _ c.before.if-n-gt56.false, lt-ltb _ _ c.if-list-n.true))
     (λ c κs. search rules)
-    (λ c. rw (le-ltb _ _ c.before.before.if1.false, le-ltb _ _ c.before.if2.false) c.any-malformed.ensures))
+    (λ c. rw (le-ltb _ _ c.before.before.if-n-gt56.false, le-ltb _ _ c.before.if-list-n.false) c.any_malformed.ensures))

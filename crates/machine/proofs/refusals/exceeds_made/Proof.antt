@@ -17,6 +17,6 @@ exceeds_made_spec =
     (λ c.
     let t = c.before.before.before in
     let st = t.before.before.before.before in
-    c.any-above.ensures
-    ∙ above_by_lem st.args.list.now st.args.n st.args.arrivals.now t.tally.new.0 t.tally.ensures
+    c.any_above.ensures
+    ∙ above_by_lem st.args.list.now st.args.n st.args.arrivals.now t.tally.new.table t.tally.ensures
     st.requires.1 (search rules)))

@@ -11,7 +11,7 @@ is_lost_spec =
     (tie.spec
     (λ c. search rules)
     (λ c κs. search rules)
-    (λ c. rw (c.before.before.before.step.given.1, eq-eqb _ _ (sym c.before.count_at.ensures ∙ c.if1.true)))
+    (λ c. rw (c.before.before.in-Store.is, eq-eqb _ _ (sym c.before.count_at.ensures ∙ c.if-count_at-eq0.true)))
     (λ c κs. search rules)
     (λ c κs. search rules)
     (λ c. search rules)
@@ -19,10 +19,10 @@ is_lost_spec =
     (λ c.
     let e = c.before.before in
     rw (
-      e.before.before.before.step.given.1,
-      ne_eqb _ _ (λ q. e.if1.false (e.before.count_at.ensures ∙ q)),
-      c.arrived-of.ensures,
-      c.before.count-at2.ensures,
+      e.before.before.in-Store.is,
+      ne_eqb _ _ (λ q. e.if-count_at-eq0.false (e.before.count_at.ensures ∙ q)),
+      c.arrived_of.ensures,
+      c.before.count_at-before.ensures,
     ))
     (λ c. search rules)
     (λ c. search rules))

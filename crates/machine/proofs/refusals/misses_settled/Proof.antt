@@ -22,23 +22,23 @@ misses_settled_spec =
     (λ c κs.
     let st = c.before.before.before.before in
     let f = fence_below (step_at st.args.list.now) st.args.n in
-    (omega (arith, st.requires.long, c.before.last-fence.ensures), zeros 1024))
+    (omega (arith, st.requires.long, c.before.last_fence-last.ensures), zeros 1024))
     (λ c. search rules)
     (λ c. search rules)
     (λ c κs.
     let f = c.before.before.before.before.before in
     let st = f.before.before.before in (
       record {
-        taken = taken_less st.args.list.now f.last-fence.result st.args.n
-            (omega (arith, f.last-fence.ensures, fence_below (step_at st.args.list.now) st.args.n))
+        taken = taken_less st.args.list.now f.last_fence-last.result st.args.n
+            (omega (arith, f.last_fence-last.ensures, fence_below (step_at st.args.list.now) st.args.n))
             st.requires;
         zero = zeros 1024;
         wide = search rules;
       },
-      (c.before.before.before.mark-backs.ensures, search rules),
+      (c.before.before.before.mark_backs.ensures, search rules),
     ))
     (λ c.
     let f = c.before.before.before.before.before.before.before in
     let a = f.before.before.before.args in
-    c.before.any-lost.ensures
-    ∙ ap (λ (k : ℕ). any_below (lost_at a.list.now k a.arrivals.now) k) f.last-fence.ensures))
+    c.before.any_lost.ensures
+    ∙ ap (λ (k : ℕ). any_below (lost_at a.list.now k a.arrivals.now) k) f.last_fence-last.ensures))
