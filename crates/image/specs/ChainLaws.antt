@@ -23,6 +23,7 @@ module _ (P : ℕ → Type 0) where
   all_of (x ∷ xs) h = (h 0 (omega arith), all_of xs (λ i b. h (suc i) (omega arith)))
 
   pub of_all : (xs : List ℕ) → All P xs → (i : ℕ) → i < length xs → P (get_or xs i 0)
+  of_all [] a i b = elim b [ ]
   of_all (x ∷ xs) a zero b = a.0
   of_all (x ∷ xs) a (suc i) b = of_all xs a.1 i (omega arith)
 
@@ -56,6 +57,7 @@ module _ (I : ℕ → Leaf) where
 
   module _ (k v : ℕ) where
     pub has_left : (xs ys : List ℕ) → Has I xs k v → Has I (xs ++ ys) k v
+    has_left [] ys x' = elim x' [ ]
     has_left (x ∷ xs) ys (inl i) = inl i
     has_left (x ∷ xs) ys (inr h) = inr (has_left xs ys h)
 
@@ -143,6 +145,7 @@ module _ (I J : ℕ → Leaf) where
   agree_links a (b ∷ bs) z s l = (l.0, rw s.0.next (agree_links (I b).next bs z s.1 l.1))
 
   pub agree_has : (k v : ℕ) (bs : List ℕ) → Agree bs I J → Has I bs k v → Has J bs k v
+  agree_has k v [] s x'' = elim x'' [ ]
   agree_has k v (b ∷ bs) s (inl i) = inl (slots_in s.0.slots k v i)
   agree_has k v (b ∷ bs) s (inr h) = inr (agree_has k v bs s.1 h)
 

@@ -52,6 +52,7 @@ module _ (L : Leaf) where
 
   entries_in_lem : (ss : List ℕ) → All (λ s. Taken L s) ss → (k v : ℕ) → Member (entries_at L ss) k v → In L k v
   unfolding entries_at
+  entries_in_lem [] a k v x'' = elim x'' [ ]
   entries_in_lem (s ∷ ss) a k v (inl e) = rw (e.0, e.1) (own L s a.0)
   entries_in_lem (s ∷ ss) a k v (inr m) = entries_in_lem ss a.1 k v m
 
@@ -66,6 +67,7 @@ module _ (L : Leaf) where
 
   keys_above : (lo : ℕ) (ss : List ℕ) → KeysRise L lo ss → (k v : ℕ) → Member (entries_at L ss) k v → lo ≤ k
   unfolding entries_at
+  keys_above lo [] r k v x'' = elim x'' [ ]
   keys_above lo (s ∷ ss) r k v (inl e) = omega (arith, r.0, e.0)
   keys_above lo (s ∷ ss) r k v (inr m) = omega (arith, r.0, keys_above (suc (L.key s)) ss r.1 k v m)
 

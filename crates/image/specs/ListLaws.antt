@@ -18,6 +18,7 @@ use Rattle.image.specs.MapLaws.{map_sym, map_trans}
 -- ---- one list
 
 member_above : (lo : ℕ) (l : List Entry) → Sorted lo l → (k v : ℕ) → Member l k v → lo ≤ k
+member_above lo [] s k v x'' = elim x'' [ ]
 member_above lo (e ∷ l) s k v (inl p) = omega (arith, s.0, p.0)
 member_above lo (e ∷ l) s k v (inr m) = omega (arith, s.0, member_above (suc e.key) l s.1 k v m)
 
@@ -65,6 +66,7 @@ lists_map q a = record { sorted = a.sorted; members = map_trans a.members q }
 
 -- one key has one value
 pub sorted_function : (lo : ℕ) (l : List Entry) → Sorted lo l → (k u v : ℕ) → Member l k u → Member l k v → u ≡ v
+sorted_function lo [] s k u v x3 _ = elim x3 [ ]
 sorted_function lo (e ∷ l) s k u v (inl a) (inl b) = a.1 ∙ sym b.1
 sorted_function lo (e ∷ l) s k u v (inl a) (inr b) = absurd (omega (arith, a.0, member_above (suc e.key) l s.1 k v b))
 sorted_function lo (e ∷ l) s k u v (inr a) (inl b) = absurd (omega (arith, b.0, member_above (suc e.key) l s.1 k u a))
@@ -74,6 +76,7 @@ sorted_function lo (e ∷ l) s k u v (inr a) (inr b) = sorted_function (suc e.ke
 
 module _ (k v : ℕ) where
   pub member_left : (l m : List Entry) → Member l k v → Member (l ++ m) k v
+  member_left [] m x' = elim x' [ ]
   member_left (e ∷ l) m (inl p) = inl p
   member_left (e ∷ l) m (inr h) = inr (member_left l m h)
 
@@ -104,6 +107,7 @@ sorted_join lo (e ∷ l) m s t f g = (
 module _ (p : ℕ → Bool) where
   pub only_member : (l : List Entry) (k v : ℕ) → Member (only p l) k v → Member l k v × (p k ≡ true)
   unfolding only
+  only_member [] k v h = elim h [ ]
   only_member (e ∷ l) k v h =
       by_test (λ b. Member (cond b (e ∷ only p l) (only p l)) k v → Member (e ∷ l) k v × (p k ≡ true)) (p e.key)
       (λ q m. elim m [ inl a ↦ (inl a, ap p a.0 ∙ q) | inr b ↦ later (only_member l k v b) ])
@@ -115,6 +119,7 @@ module _ (p : ℕ → Bool) where
 
   pub member_only : (l : List Entry) (k v : ℕ) → p k ≡ true → Member l k v → Member (only p l) k v
   unfolding only
+  member_only [] k v t x'' = elim x'' [ ]
   member_only (e ∷ l) k v t (inl a) = rw (ap p (sym a.0) ∙ t) (inl a)
   member_only (e ∷ l) k v t (inr m) =
       by_test (λ b. Member (cond b (e ∷ only p l) (only p l)) k v) (p e.key)
@@ -212,6 +217,7 @@ module _ (k : ℕ) where
 
   member_found : (lo : ℕ) (l : List Entry) (v : ℕ) → Sorted lo l → Member l k v → lookup k l ≡ some v
   unfolding lookup
+  member_found lo [] v s x'' = elim x'' [ ]
   member_found lo (e ∷ l) v s (inl a) = rw (eq-eqb e.key k (sym a.0), a.1)
   member_found lo (e ∷ l) v s (inr m) =
       rw (ne_eqb e.key k (λ q. omega (arith, member_above (suc e.key) l s.1 k v m)))

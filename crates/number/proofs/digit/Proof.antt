@@ -7,7 +7,9 @@ use Rattle.number.proofs.digit.Tie as tie
 pub digit_spec : {M : Type 1} → statement M
 digit_spec =
     tie.close
-    (tie.spec (λ c. simp (lt-ltb _ _ c.if1.true))
-    (λ c. simp (le-ltb _ _ c.before.if1.false, lt-ltb _ _ c.if2.true))
-    (λ c κs. search rules) (λ c. search rules)
-    (λ c. simp (le-ltb _ _ c.before.before.if1.false, le-ltb _ _ c.before.if2.false, c.wide.ensures.0)))
+    (tie.spec
+    (λ c. simp (lt-ltb _ _ c.if-byte-lt48.true))
+    (λ c. simp (le-ltb _ _ c.before.if-byte-lt48.false, lt-ltb _ _ c.if-byte-gt57.true))
+    (λ c κs. search rules)
+    (λ c. search rules)
+    (λ c. simp (le-ltb _ _ c.before.before.if-byte-lt48.false, le-ltb _ _ c.before.if-byte-gt57.false, c.wide.ensures.0)))

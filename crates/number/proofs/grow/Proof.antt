@@ -10,13 +10,14 @@ use Rattle.number.proofs.grow.Tie as tie
 pub grow_spec : {M : Type 1} → statement M
 grow_spec =
     tie.close
-    (tie.spec (λ c. simp (eq-eqb _ _ c.if1.true))
+    (tie.spec
+    (λ c. simp (eq-eqb _ _ c.if-n-eq0.true))
     (λ c. let a = c.before.before.args in
-    simp (ne_eqb _ _ c.before.if1.false, lt-ltb most (a.n * 10 + a.digit) (omega arith)))
+    simp (ne_eqb _ _ c.before.if-n-eq0.false, lt-ltb most (a.n * 10 + a.digit) (omega arith)))
     (λ c. search rules)
     (λ c. search rules)
     (λ c. let a = c.before.before.before.args in
-    simp (ne_eqb _ _ c.before.before.if1.false, lt-ltb most (a.n * 10 + a.digit) (omega arith)))
+    simp (ne_eqb _ _ c.before.before.if-n-eq0.false, lt-ltb most (a.n * 10 + a.digit) (omega arith)))
     (λ c. search rules)
     (λ c. let a = c.before.before.before.args in
-    simp (ne_eqb _ _ c.before.before.if1.false, le-ltb most (a.n * 10 + a.digit) (omega arith))))
+    simp (ne_eqb _ _ c.before.before.if-n-eq0.false, le-ltb most (a.n * 10 + a.digit) (omega arith))))

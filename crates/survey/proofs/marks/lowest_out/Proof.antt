@@ -8,6 +8,7 @@ use Rattle.survey.proofs.marks.lowest_out.Tie as tie
 pub lowest_out_spec : {M : Type 1} → statement M
 lowest_out_spec =
     tie.close
-    (tie.spec (λ c κs. search rules)
-    (λ c. sym (out_found _ _ _ (omega arith) c.before.first_out.ensures (omega arith)))
-    (λ c. sym (out_missing _ _ _ (omega arith) c.before.first_out.ensures (omega arith))))
+    (tie.spec
+    (λ c κs. search rules)
+    (λ c. sym (out_found _ _ _ (omega arith) c.before.first_out-b.ensures (omega arith)))
+    (λ c. sym (out_missing _ _ _ (omega arith) c.before.first_out-b.ensures (omega arith))))

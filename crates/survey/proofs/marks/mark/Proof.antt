@@ -16,9 +16,16 @@ returns c =
     let w = get_or l (a.block / 64) 0 in
     let p : a.block % 64 < 64 = omega arith in
     ap (λ (v : ℕ). words_in (set l (a.block / 64) v)) (ap (bit_or w) (one_shl (a.block % 64) p) ∙ or_patched w (a.block % 64))
-    ∙ word_patched l a.block (omega arith) (λ i. omega (arith, c.slice-known.given i))
+    ∙ word_patched l a.block (omega arith) (λ i. omega (arith, c.slice_known-1.given i))
 
 pub mark_spec : {M : Type 1} → statement M
 mark_spec =
     tie.close
-    (tie.spec (λ c. search rules) (λ c. search rules) (λ c. search rules) (λ c. search rules) (λ c. search rules) (λ c. search rules) returns)
+    (tie.spec
+    (λ c. search rules)
+    (λ c. search rules)
+    (λ c. search rules)
+    (λ c. search rules)
+    (λ c. search rules)
+    (λ c. search rules)
+    returns)

@@ -11,7 +11,9 @@ use Rattle.survey.proofs.walk.begun.Tie as tie
 pub begun_spec : {M : Type 1} → statement M
 begun_spec =
     tie.close
-    (tie.spec (λ c κs. search rules) (λ c. search rules)
+    (tie.spec
+    (λ c κs. search rules)
+    (λ c. search rules)
     (λ c. let m = c.before.before in
     λ i. record {
       stage = 0;

@@ -16,11 +16,11 @@ returns c =
       stage = p1.pick.ensures i;
       at = a.next;
       prev = a.w.at;
-      target = p2.pick2.ensures i;
-      before = p3.pick3.ensures i;
+      target = p2.pick-2.ensures i;
+      before = p3.pick-3.ensures i;
       leaves = a.w.leaves + 1;
       entries = a.w.entries + a.t.entries;
-      last = c.pick4.ensures i;
+      last = c.pick-4.ensures i;
       met = (ap is_in m.mark.ensures ∙ in_with (words_in a.met.now) a.next) i;
     }
 
@@ -28,5 +28,12 @@ pub onward_spec : {M : Type 1} → statement M
 onward_spec =
     tie.close
     (tie.spec
-    (λ c κs. search rules) (λ c κs. search rules) (λ c κs. search rules) (λ c κs. search rules) (λ c. search rules)
-    (λ c. search rules) (λ c κs. search rules) (λ c. search rules) returns)
+    (λ c κs. search rules)
+    (λ c κs. search rules)
+    (λ c κs. search rules)
+    (λ c κs. search rules)
+    (λ c. search rules)
+    (λ c. search rules)
+    (λ c κs. search rules)
+    (λ c. search rules)
+    returns)

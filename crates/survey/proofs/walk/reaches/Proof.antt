@@ -7,6 +7,7 @@ use Rattle.survey.proofs.walk.reaches.Tie as tie
 pub reaches_spec : {M : Type 1} → statement M
 reaches_spec =
     tie.close
-    (tie.spec (λ c κs. search rules)
-    (λ c. ap bit (sym c.if1.true ∙ c.before.and.ensures))
-    (λ c. ap bit (sym c.if1.false ∙ c.before.and.ensures)))
+    (tie.spec
+    (λ c κs. search rules)
+    (λ c. ap bit (sym c.if-and.true ∙ c.before.and.ensures))
+    (λ c. ap bit (sym c.if-and.false ∙ c.before.and.ensures)))

@@ -5,14 +5,20 @@ use Rattle.survey.proofs.walk.survey_noting.Statement.{statement}
 use Rattle.survey.proofs.walk.survey_noting.Tie as tie
 
 -- four words 0 hold no block
-walk-along-requires : tie.Need-walk-along-requires
+walk-along-requires : tie.Need-walk_along-w-requires
 unfolding words_in
 walk-along-requires c κs = search rules
 
 pub survey_noting_spec : {M : Type 1} → statement M
 survey_noting_spec =
     tie.close
-    (tie.spec (λ c. search rules) (λ c. search rules) walk-along-requires (λ c. search rules) (λ c κs. search rules)
-    (λ c. search rules) (λ c. search rules)
+    (tie.spec
+    (λ c. search rules)
+    (λ c. search rules)
+    walk-along-requires
+    (λ c. search rules)
+    (λ c κs. search rules)
+    (λ c. search rules)
+    (λ c. search rules)
     (λ c. let a = c.before.before.before.before.before.before.before.before in
-    (c.told.ensures ∙ a.walk-along.ensures.0, a.walk-along.ensures.1)))
+    (c.told.ensures ∙ a.walk_along-w.ensures.0, a.walk_along-w.ensures.1)))

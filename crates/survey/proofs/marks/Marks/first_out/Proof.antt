@@ -7,20 +7,21 @@ use Rattle.survey.proofs.marks.Marks.first_out.Tie as tie
 pub first_out_spec : {M : Type 1} → statement M
 first_out_spec =
     tie.close
-    (tie.spec (λ c κs. search rules)
-    (λ c. out_a _ _ _ _ (omega arith) (omega arith) (omega arith) (omega arith) _ c.before.lowest_zero.ensures (omega arith))
+    (tie.spec
+    (λ c κs. search rules)
+    (λ c. out_a _ _ _ _ (omega arith) (omega arith) (omega arith) (omega arith) _ c.before.lowest_zero-a.ensures (omega arith))
     (λ c κs. search rules)
     (λ c. omega arith)
     (λ c. let z = c.before in
-    out_b _ _ _ _ (omega arith) (omega arith) (omega arith) (omega arith) _ z.before.before.lowest_zero.ensures (omega arith) _
-    z.lowest-zero2.ensures (omega arith))
+    out_b _ _ _ _ (omega arith) (omega arith) (omega arith) (omega arith) _ z.before.before.lowest_zero-a.ensures (omega arith) _
+    z.lowest_zero-b.ensures (omega arith))
     (λ c κs. search rules)
     (λ c. omega arith)
     (λ c. let x = c.before in let z = x.before.before in
-    out_c _ _ _ _ (omega arith) (omega arith) (omega arith) (omega arith) _ z.before.before.lowest_zero.ensures (omega arith) _
-    z.lowest-zero2.ensures (omega arith) _ x.lowest-zero3.ensures (omega arith))
+    out_c _ _ _ _ (omega arith) (omega arith) (omega arith) (omega arith) _ z.before.before.lowest_zero-a.ensures (omega arith) _
+    z.lowest_zero-b.ensures (omega arith) _ x.lowest_zero-c.ensures (omega arith))
     (λ c κs. search rules)
-    (λ c. omega (arith, c.lowest-zero4.ensures.most))
+    (λ c. omega (arith, c.lowest_zero.ensures.most))
     (λ c. let x = c.before.before in let z = x.before.before in
-    out_d _ _ _ _ (omega arith) (omega arith) (omega arith) (omega arith) _ z.before.before.lowest_zero.ensures (omega arith) _
-    z.lowest-zero2.ensures (omega arith) _ x.lowest-zero3.ensures (omega arith) _ c.lowest-zero4.ensures))
+    out_d _ _ _ _ (omega arith) (omega arith) (omega arith) (omega arith) _ z.before.before.lowest_zero-a.ensures (omega arith) _
+    z.lowest_zero-b.ensures (omega arith) _ x.lowest_zero-c.ensures (omega arith) _ c.lowest_zero.ensures))
