@@ -88,6 +88,7 @@ positive m ne = omega arith
 module _ (I : ℕ → Leaf) (N key : ℕ) (inside : (b s : ℕ) → Taken (I b) s → s < (I b).size) where
   no_entries : (xs : List ℕ) → entries I xs ≡ 0 → (j u : ℕ) → Has I xs j u → ⊥
   unfolding sum_of
+  no_entries [] e j u x'' = elim x'' [ ]
   no_entries (x ∷ xs) e j u (inl i) = empty_leaf_lem (I x) (omega arith) i.at (inside x i.at i.taken) i.taken
   no_entries (x ∷ xs) e j u (inr h) = no_entries xs (omega arith) j u h
 

@@ -8,4 +8,8 @@ use Rattle.command.proofs.as_get.Tie as tie
 pub as_get_spec : {M : Type 1} → statement M
 as_get_spec =
     tie.close
-    (tie.spec (λ c. search rules) (λ c. search rules) (λ c. ap as_get (sym c.before.key.given.1)) (λ c. search rules))
+    (tie.spec
+    (λ c. search rules)
+    (λ c. search rules)
+    (λ c. ap as_get (sym c.in-Is.is))
+    (λ c. search rules))

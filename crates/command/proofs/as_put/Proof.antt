@@ -8,4 +8,8 @@ use Rattle.command.proofs.as_put.Tie as tie
 pub as_put_spec : {M : Type 1} → statement M
 as_put_spec =
     tie.close
-    (tie.spec (λ c. search rules) (λ c. search rules) (λ c. ap as_put (sym c.before.pair.given.1)) (λ c. search rules))
+    (tie.spec
+    (λ c. search rules)
+    (λ c. search rules)
+    (λ c. ap as_put (sym c.in-Both.is))
+    (λ c. search rules))

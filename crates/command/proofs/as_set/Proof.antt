@@ -8,4 +8,8 @@ use Rattle.command.proofs.as_set.Tie as tie
 pub as_set_spec : {M : Type 1} → statement M
 as_set_spec =
     tie.close
-    (tie.spec (λ c. search rules) (λ c. search rules) (λ c. ap as_set (sym c.before.pair.given.1)) (λ c. search rules))
+    (tie.spec
+    (λ c. search rules)
+    (λ c. search rules)
+    (λ c. ap as_set (sym c.in-Both.is))
+    (λ c. search rules))

@@ -11,31 +11,38 @@ use Rattle.command.specs.declared.Next.TheVariants.{Line}
 use Rattle.command.proofs.line_at.Statement.{statement}
 use Rattle.command.proofs.line_at.Tie as tie
 
-part_end : tie.Need-slice-bounds-parse-end
+part_end : tie.Need-slice_bounds-parse-end
 part_end c =
     let a = c.before.before.before.args in
     omega (arith, until_within 10 a.input.now a.at (omega arith))
 
-add-t11 : tie.Need-overflow-add-t11
+add-t11 : tie.Need-overflow_add-result
 add-t11 c =
     let a = c.before.before.before.before.before.args in
     omega (arith, until_within 10 a.input.now a.at (omega arith))
 
-returns : tie.Need-returns
+returns : tie.Need-returns-then-at-input
 unfolding line_at
 returns c =
     let e = c.before.before in
     let a = e.before.before.before.args in
-    let n : e.line-end.result - a.at ≡ until 10 (drop a.at a.input.now) = omega arith in
+    let n : e.line_end-end.result - a.at ≡ until 10 (drop a.at a.input.now) = omega arith in
     let read = c.parse.ensures ∙ ap (λ (k : ℕ). parse_of (take k (drop a.at a.input.now))) n in
-    rw (lt-ltb _ _ e.before.if1.true) (ap₂ Line read (ap past_line e.line-end.ensures))
+    rw (lt-ltb _ _ e.before.if-at-input.true) (ap₂ Line read (ap past_line e.line_end-end.ensures))
 
-returns-2 : tie.Need-returns-2
+returns-2 : tie.Need-returns
 unfolding line_at
-returns-2 c = rw (le-ltb _ _ c.if1.false)
+returns-2 c = rw (le-ltb _ _ c.if-at-input.false)
 
 pub line_at_spec : {M : Type 1} → statement M
 line_at_spec =
     tie.close
-    (tie.spec (λ c κs. search rules) (λ c. search rules) (λ c. search rules) part_end (λ c κs. search rules) add-t11
-    returns returns-2)
+    (tie.spec
+    (λ c κs. search rules)
+    (λ c. search rules)
+    (λ c. search rules)
+    part_end
+    (λ c κs. search rules)
+    add-t11
+    returns
+    returns-2)

@@ -9,12 +9,12 @@ use Rattle.number.specs.Reading.{spelled_by}
 use Rattle.command.proofs.rest_at.Statement.{statement}
 use Rattle.command.proofs.rest_at.Tie as tie
 
-returns : tie.Need-returns
+returns : tie.Need-returns-then-line-at
 returns c =
     let a = c.before.before.args in
     ap spelled_by (sym (drop_of_length-le a.line.now {i = a.at} (omega arith)))
 
-returns-2 : tie.Need-returns-2
+returns-2 : tie.Need-returns
 returns-2 c =
     let a = c.before.before.before.before.args in
     let l = a.line.now in
@@ -24,4 +24,10 @@ returns-2 c =
 pub rest_at_spec : {M : Type 1} → statement M
 rest_at_spec =
     tie.close
-    (tie.spec returns (λ c. search rules) (λ c. search rules) (λ c. search rules) (λ c κs. search rules) returns-2)
+    (tie.spec
+    returns
+    (λ c. search rules)
+    (λ c. search rules)
+    (λ c. search rules)
+    (λ c κs. search rules)
+    returns-2)
