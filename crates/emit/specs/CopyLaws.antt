@@ -59,7 +59,7 @@ module _ (L : Leaf) where
 
   pub head_append : (h : ℕ) (k l : List Copy) → copied_head L h (k ++ l) ≡ copied_head L (copied_head L h k) l
   head_append h [] l = refl
-  head_append h (c ∷ k) l = head_append _ k l
+  head_append h (c ∷ k) l = head_append (copied_head L h (c ∷ [])) k l
 
 -- one slot of the line seen to: nothing copied, or one entry
 abbrev pub Turned : (ℕ → Bool) → Leaf → ℕ → ℕ → ℕ → ℕ → List ℕ → List ℕ → ℕ → Type 0

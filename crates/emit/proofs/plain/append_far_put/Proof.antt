@@ -14,20 +14,33 @@ returns c =
     let two = three.before.before.before.before.before in
     let one = two.before.before.before.before in
     let a = one.before.before.before.before.args in
-    let n = two.append-copies.ensures in
+    let n = two.append_copies-n.ensures in
     let r = far_put_lem (bits_of a.head) (leaf_in a.leaf.now) a.block a.s a.key a.value a.at
-    two.append-copies.result _
-    (bits_of f.filled-head.result) a.list.now _ _ _ _ one.append-entry.ensures n.0 n.1
+    two.append_copies-n.result _
+    (bits_of f.filled_head.result) a.list.now _ _ _ _ one.append_entry.ensures n.0 n.1
     (omega (arith, three.before.line.ensures))
-    three.append-settling.ensures
-    f.filled-head.ensures four.append-header.ensures in
+    three.append_settling.ensures
+    f.filled_head.ensures four.append_header.ensures in
     (r.0, r.1, omega (arith, n.2))
 
 pub append_far_put_spec : {M : Type 1} → statement M
 append_far_put_spec =
     tie.close
     (tie.spec
-    (λ c κs. search rules) (λ c. search rules) (λ c κs. search rules) (λ c. search rules) (λ c. search rules)
-    (λ c. search rules) (λ c. search rules) (λ c κs. search rules) (λ c. search rules) (λ c κs. search rules)
-    (λ c. search rules) (λ c κs. search rules) (λ c κs. search rules) (λ c. search rules) (λ c. search rules)
-    (λ c. search rules) returns)
+    (λ c κs. search rules)
+    (λ c. search rules)
+    (λ c κs. search rules)
+    (λ c. search rules)
+    (λ c. search rules)
+    (λ c. search rules)
+    (λ c. search rules)
+    (λ c κs. search rules)
+    (λ c. search rules)
+    (λ c κs. search rules)
+    (λ c. search rules)
+    (λ c κs. search rules)
+    (λ c κs. search rules)
+    (λ c. search rules)
+    (λ c. search rules)
+    (λ c. search rules)
+    returns)

@@ -21,7 +21,7 @@ returns c =
     let x = Store (word_place a.block 1) o.word1.result in
     stretch_more l _ a.at (a.at + 1) (x ∷ []) (step_first l _ a.at x p.put_step.ensures) refl _
     (one_store (32 * a.block) z.word0.result)
-    b.append-store.ensures
+    b.append_store.ensures
     ∙ ap₂ (λ (q v : ℕ). appended l a.at (x ∷ one_store q v)) (start_place a.block) z.word0.ensures
     ∙ ap (λ (v : ℕ). appended l a.at (Store (word_place a.block 1) v ∷ one_store (word_place a.block 0)
     (low_word (bits_of a.head)))) o.word1.ensures
@@ -30,5 +30,12 @@ pub append_header_spec : {M : Type 1} → statement M
 append_header_spec =
     tie.close
     (tie.spec
-    (λ c. search rules) (λ c. search rules) (λ c κs. search rules) (λ c κs. search rules) (λ c. search rules)
-    (λ c κs. search rules) (λ c κs. search rules) (λ c. search rules) returns)
+    (λ c. search rules)
+    (λ c. search rules)
+    (λ c κs. search rules)
+    (λ c κs. search rules)
+    (λ c. search rules)
+    (λ c κs. search rules)
+    (λ c κs. search rules)
+    (λ c. search rules)
+    returns)

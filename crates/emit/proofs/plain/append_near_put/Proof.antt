@@ -19,16 +19,23 @@ returns c =
     let a = e.before.before.before.args in
     let l = a.list.now in
     let k = entry_steps a.block a.s a.key a.value in
-    stretch_more l _ a.at (a.at + 2) k e.append-entry.ensures refl _ (one_store (32 * a.block) z.word0.result)
-    b.append-store.ensures
+    stretch_more l _ a.at (a.at + 2) k e.append_entry.ensures refl _ (one_store (32 * a.block) z.word0.result)
+    b.append_store.ensures
     ∙ ap₂ (λ (p v : ℕ). appended l a.at (k ++ one_store p v)) (start_place a.block)
     (z.word0.ensures
     ∙ ap low_word (m.mark.ensures
-    ∙ ap (λ (f : ℕ). marked (bits_of a.head) a.s f) m.before.fingerprint-of.ensures))
+    ∙ ap (λ (f : ℕ). marked (bits_of a.head) a.s f) m.before.fingerprint_of.ensures))
 
 pub append_near_put_spec : {M : Type 1} → statement M
 append_near_put_spec =
     tie.close
     (tie.spec
-    (λ c κs. search rules) (λ c. search rules) (λ c. search rules) (λ c κs. search rules) (λ c κs. search rules)
-    (λ c κs. search rules) (λ c κs. search rules) (λ c. search rules) returns)
+    (λ c κs. search rules)
+    (λ c. search rules)
+    (λ c. search rules)
+    (λ c κs. search rules)
+    (λ c κs. search rules)
+    (λ c κs. search rules)
+    (λ c κs. search rules)
+    (λ c. search rules)
+    returns)

@@ -11,46 +11,51 @@ use Rattle.emit.specs.PutLaws.{put_found_lem}
 use Rattle.emit.proofs.plain.append_plain_put.Statement.{statement}
 use Rattle.emit.proofs.plain.append_plain_put.Tie as tie
 
-append-put-at-requires : tie.Need-append-put-at-requires
+append-put-at-requires : tie.Need-append_put_at-requires
 append-put-at-requires c κs =
-    let g = c.before.before.s.given in
-    let v = c.before.before.before.before in
+    let g = c.before.in-At in
+    let v = c.before.before in
     let a = v.before.before.before.args in (
       omega arith,
       omega arith,
       omega arith,
-      (vacant_at (occ_in (bits_of a.head)) 14 g.0.0 (sym v.lowest-vacant.ensures ∙ g.1)).0,
+      (vacant_at (occ_in (bits_of a.head)) 14 g.s (sym v.lowest_vacant.ensures ∙ g.is)).0,
     )
 
-returns : tie.Need-returns
+returns : tie.Need-returns-in-At
 returns c =
     let x = c.before.before in
-    let s = x.before.before.before in
-    let v = s.before.before in
+    let s = x.before.before in
+    let v = s.before in
     let a = v.before.before.before.args in
     let h = bits_of a.head in
     let L = leaf_in a.leaf.now in
-    let g = s.s.given in
-    wrote_as a.list.now a.at (put_found (At g.0.0) h L a.block a.key a.value)
+    let g = s.in-At in
+    wrote_as a.list.now a.at (put_found (At g.s) h L a.block a.key a.value)
     (plain_put h L a.block a.key a.value) _ _
-    (put_found_lem h L a.block a.key a.value (At g.0.0) (sym g.1 ∙ v.lowest-vacant.ensures))
-    x.append-put-at.ensures
+    (put_found_lem h L a.block a.key a.value (At g.s) (sym g.is ∙ v.lowest_vacant.ensures))
+    x.append_put_at.ensures
 
-returns-2 : tie.Need-returns-2
+returns-2 : tie.Need-returns-in-Missing
 unfolding appended
 returns-2 c =
-    let v = c.before.before in
+    let v = c.before in
     let a = v.before.before.before.args in
     let h = bits_of a.head in
     let L = leaf_in a.leaf.now in
     wrote_as a.list.now a.at (put_found Missing h L a.block a.key a.value)
     (plain_put h L a.block a.key a.value) _ _
-    (put_found_lem h L a.block a.key a.value Missing (sym c.enum_told.given.1 ∙ v.lowest-vacant.ensures))
+    (put_found_lem h L a.block a.key a.value Missing (sym c.in-Missing.is ∙ v.lowest_vacant.ensures))
     (refl, refl, omega arith)
 
 pub append_plain_put_spec : {M : Type 1} → statement M
 append_plain_put_spec =
     tie.close
     (tie.spec
-    (λ c κs. search rules) (λ c. search rules) append-put-at-requires (λ c. search rules) (λ c. search rules) returns
+    (λ c κs. search rules)
+    (λ c. search rules)
+    append-put-at-requires
+    (λ c. search rules)
+    (λ c. search rules)
+    returns
     returns-2)

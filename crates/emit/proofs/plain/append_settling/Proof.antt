@@ -15,9 +15,14 @@ returns c =
     let l = a.list.now in
     let x = WriteBack a.line in
     step_more l _ a.at (a.at + 1) (x ∷ []) (step_first l _ a.at x one.put_step.ensures) refl _ Fence
-    two.put-step2.ensures
+    two.put_step-2.ensures
 
 pub append_settling_spec : {M : Type 1} → statement M
 append_settling_spec =
     tie.close
-    (tie.spec (λ c κs. search rules) (λ c. search rules) (λ c κs. search rules) (λ c. search rules) returns)
+    (tie.spec
+    (λ c κs. search rules)
+    (λ c. search rules)
+    (λ c κs. search rules)
+    (λ c. search rules)
+    returns)

@@ -18,12 +18,17 @@ returns c =
     let y = WriteBack (a.place / 8) in
     step_more l _ a.at (a.at + 2) (x ∷ y ∷ [])
     (step_more l _ a.at (a.at + 1) (x ∷ []) (step_first l _ a.at x one.put_step.ensures) refl
-    _ y two.put-step2.ensures)
-    refl _ Fence three.put-step3.ensures
+    _ y two.put_step-2.ensures)
+    refl _ Fence three.put_step-3.ensures
 
 pub append_store_spec : {M : Type 1} → statement M
 append_store_spec =
     tie.close
     (tie.spec
-    (λ c κs. search rules) (λ c. search rules) (λ c κs. search rules) (λ c. search rules) (λ c κs. search rules)
-    (λ c. search rules) returns)
+    (λ c κs. search rules)
+    (λ c. search rules)
+    (λ c κs. search rules)
+    (λ c. search rules)
+    (λ c κs. search rules)
+    (λ c. search rules)
+    returns)

@@ -16,7 +16,7 @@ returns c = λ w e.
     let b = c.before.before in
     let z = b.before in
     let a = z.before.before.before.before.args in
-    b.append-store.ensures
+    b.append_store.ensures
     ∙ appended_start (one_store (32 * a.block) z.word0.result) a.list.now (omega arith)
     ∙ ap₂ (λ (p v : ℕ). written (one_store p v) a.list.now) (start_place a.block)
     (z.word0.ensures ∙ ap low_word (z.before.clear.ensures ∙ ap (λ (h : ℕ). cleared h a.s) (sym e)))
@@ -25,5 +25,9 @@ pub write_clear_spec : {M : Type 1} → statement M
 write_clear_spec =
     tie.close
     (tie.spec
-    (λ c. search rules) (λ c κs. search rules) (λ c κs. search rules) (λ c κs. search rules) (λ c. search rules)
+    (λ c. search rules)
+    (λ c κs. search rules)
+    (λ c κs. search rules)
+    (λ c κs. search rules)
+    (λ c. search rules)
     returns)

@@ -15,12 +15,17 @@ returns c =
     let b = c.before.before in
     let v = b.before in
     let a = v.before.before.before.args in
-    b.append-store.ensures
-    ∙ appended_start (one_store (32 * a.block + v.value-word.result) a.value) a.list.now (omega arith)
-    ∙ ap (λ (i : ℕ). written (one_store (32 * a.block + i) a.value) a.list.now) v.value-word.ensures
+    b.append_store.ensures
+    ∙ appended_start (one_store (32 * a.block + v.value_word.result) a.value) a.list.now (omega arith)
+    ∙ ap (λ (i : ℕ). written (one_store (32 * a.block + i) a.value) a.list.now) v.value_word.ensures
 
 pub write_set_spec : {M : Type 1} → statement M
 write_set_spec =
     tie.close
     (tie.spec
-    (λ c. search rules) (λ c κs. search rules) (λ c. search rules) (λ c κs. search rules) (λ c. search rules) returns)
+    (λ c. search rules)
+    (λ c κs. search rules)
+    (λ c. search rules)
+    (λ c κs. search rules)
+    (λ c. search rules)
+    returns)

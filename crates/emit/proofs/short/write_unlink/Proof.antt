@@ -18,9 +18,9 @@ returns c = λ w d e f.
     let s = b.before in
     let t = s.before in
     let a = t.before.before.before.args in
-    b.append-store.ensures
-    ∙ appended_start (one_store (32 * a.before + s.sibling-word.result) a.next) a.list.now (omega arith)
-    ∙ ap (λ (i : ℕ). written (one_store (32 * a.before + i) a.next) a.list.now) s.sibling-word.ensures
+    b.append_store.ensures
+    ∙ appended_start (one_store (32 * a.before + s.sibling_word.result) a.next) a.list.now (omega arith)
+    ∙ ap (λ (i : ℕ). written (one_store (32 * a.before + i) a.next) a.list.now) s.sibling_word.ensures
     ∙ ap₂ (λ (i v : ℕ). written (one_store (sib_place a.before i) v) a.list.now) (t.alt.ensures ∙ ap alt_in (sym e))
     (sym f)
 
@@ -28,12 +28,14 @@ pub write_unlink_spec : {M : Type 1} → statement M
 write_unlink_spec =
     tie.close
     (tie.spec
-    (λ c. search rules) (λ c κs. search rules)
+    (λ c. search rules)
+    (λ c κs. search rules)
     (λ c κs. omega (arith, alt_lt (bits_of c.before.before.before.args.head), c.alt.ensures))
     (λ c. let t = c.before in
-    omega (arith, c.sibling-word.ensures, alt_lt (bits_of t.before.before.before.args.head), t.alt.ensures))
+    omega (arith, c.sibling_word.ensures, alt_lt (bits_of t.before.before.before.args.head), t.alt.ensures))
     (λ c κs. let t = c.before in (
       omega arith,
-      omega (arith, c.sibling-word.ensures, alt_lt (bits_of t.before.before.before.args.head), t.alt.ensures),
+      omega (arith, c.sibling_word.ensures, alt_lt (bits_of t.before.before.before.args.head), t.alt.ensures),
     ))
-    (λ c. search rules) returns)
+    (λ c. search rules)
+    returns)

@@ -13,7 +13,12 @@ use Rattle.index.proofs.listing.list_block.Tie as tie
 pub list_block_spec : {M : Type 1} → statement M
 list_block_spec =
     tie.close
-    (tie.spec (λ c. search rules) (λ c. search rules) (λ c. search rules) (λ c. search rules) (λ c. search rules)
+    (tie.spec
+    (λ c. search rules)
+    (λ c. search rules)
+    (λ c. search rules)
+    (λ c. search rules)
+    (λ c. search rules)
     (λ c κs. let st = c.before.before.before.before.before.before in let a = st.args in (
       omega (
         arith,
@@ -25,10 +30,11 @@ list_block_spec =
       omega arith,
       omega arith,
     ))
-    (λ c. search rules) (λ c. search rules)
+    (λ c. search rules)
+    (λ c. search rules)
     (λ c.
     let f = c.before.before.before.before in
     let a = f.before.before.before.before.before.before.before.args in
-    f.list-leaf.ensures
+    f.list_leaf.ensures
     ∙ ap (λ (L : Leaf). fill a.room (entries_from L a.from) (buffers a.used a.keys.now a.values.now))
     (part_leaf a.image.now a.block (256 * a.block) (256 * a.block + 256) refl refl)))

@@ -12,52 +12,57 @@ use Rattle.index.specs.ListingLaws.{target_near, listing_bad, listing_unsound, l
 use Rattle.index.proofs.listing.listing.Statement.{statement}
 use Rattle.index.proofs.listing.listing.Tie as tie
 
-list-chain-requires : tie.Need-list-chain-requires
+list-chain-requires : tie.Need-list_chain-n-requires
 list-chain-requires c κs =
     let r = c.before.before in
     let s = r.before.before.before in
     let b = s.before.before in
     let a = b.before.before.before.before.args in
     let l = a.image.now in
-    let fine = sym b.bad_image_lem.ensures ∙ s.before.if1.false in
-    let sound = sym (ap (λ (st : State). st.stage) s.survey.ensures) ∙ r.before.if2.false in (
+    let fine = sym b.bad_image.ensures ∙ s.before.if-bad_image.false in
+    let sound = sym (ap (λ (st : State). st.stage) s.survey-w.ensures) ∙ r.before.if-w-ne1.false in (
       omega arith,
-      omega (arith, r.shorter.ensures),
-      omega (arith, r.shorter.ensures),
+      omega (arith, r.shorter-room.ensures),
+      omega (arith, r.shorter-room.ensures),
       subst (λ (t : ℕ). All (λ x. (x < blocks l) × Right (leaves l x)) (chain_from (leaves l) (blocks l) t))
-          (sym (ap (λ (st : State). st.target) s.survey.ensures))
+          (sym (ap (λ (st : State). st.target) s.survey-w.ensures))
           (target_near l a.from fine sound),
     )
 
-returns-3 : tie.Need-returns-3
+returns-3 : tie.Need-returns
 returns-3 c =
     let f = c.before.before.before.before in
     let r = f.before.before.before in
     let s = r.before.before.before in
     let b = s.before.before in
     let a = b.before.before.before.before.args in
-    listing_done a.image.now a.from a.keys.now a.values.now (sym b.bad_image_lem.ensures ∙ s.before.if1.false)
-    (sym (ap (λ (st : State). st.stage) s.survey.ensures) ∙ r.before.if2.false)
-    r.shorter.result
-    s.survey.result.target
-    f.list-chain.result
+    listing_done a.image.now a.from a.keys.now a.values.now (sym b.bad_image.ensures ∙ s.before.if-bad_image.false)
+    (sym (ap (λ (st : State). st.stage) s.survey-w.ensures) ∙ r.before.if-w-ne1.false)
+    r.shorter-room.result
+    s.survey-w.result.target
+    f.list_chain-n.result
     _
     _
-    r.shorter.ensures
-    (ap (λ (st : State). st.target) s.survey.ensures)
-    f.list-chain.ensures
+    r.shorter-room.ensures
+    (ap (λ (st : State). st.target) s.survey-w.ensures)
+    f.list_chain-n.ensures
 
 pub listing_spec : {M : Type 1} → statement M
 listing_spec =
     tie.close
-    (tie.spec (λ c κs. search rules)
+    (tie.spec
+    (λ c κs. search rules)
     (λ c. let a = c.before.before.before.before.before.args in
     listing_bad a.image.now a.from a.keys.now a.values.now
-    (sym c.before.bad_image_lem.ensures ∙ c.if1.true))
+    (sym c.before.bad_image.ensures ∙ c.if-bad_image.true))
     (λ c κs. long_enough c.before.before.before.before.before.args.image.now
-    (sym c.before.bad_image_lem.ensures ∙ c.if1.false))
+    (sym c.before.bad_image.ensures ∙ c.if-bad_image.false))
     (λ c. let s = c.before.before in let b = s.before.before in let a = b.before.before.before.before.args in
     listing_unsound a.image.now a.from a.keys.now a.values.now
-    (sym b.bad_image_lem.ensures ∙ s.before.if1.false)
-    (λ e. c.if2.true (ap (λ (st : State). st.stage) s.survey.ensures ∙ e)))
-    (λ c κs. search rules) list-chain-requires (λ c. search rules) (λ c. search rules) returns-3)
+    (sym b.bad_image.ensures ∙ s.before.if-bad_image.false)
+    (λ e. c.if-w-ne1.true (ap (λ (st : State). st.stage) s.survey-w.ensures ∙ e)))
+    (λ c κs. search rules)
+    list-chain-requires
+    (λ c. search rules)
+    (λ c. search rules)
+    returns-3)

@@ -6,5 +6,5 @@ pub is_short_spec : {M : Type 1} → statement M
 is_short_spec =
     tie.close
     (tie.spec
-    (λ c. rw (lt-ltb c.before.args.smallest c.before.args.n c.if1.true))
-    (λ c. rw (le-ltb c.before.args.smallest c.before.args.n c.if1.false)))
+    (λ c. rw (lt-ltb c.before.args.smallest c.before.args.n c.if-smallest-n.true))
+    (λ c. rw (le-ltb c.before.args.smallest c.before.args.n c.if-smallest-n.false)))
