@@ -25,17 +25,32 @@ returns c =
     let x4 = WriteBack (n + 3) in
     let x5 = WriteBack (4 * a.old + 3) in
     let e1 = step_first l _ i x1 one.put_step.ensures in
-    let e2 = step_more l _ i (i + 1) (x1 ∷ []) e1 refl _ x2 two.put-step2.ensures in
-    let e3 = step_more l _ i (i + 2) (x1 ∷ x2 ∷ []) e2 refl _ x3 three.put-step3.ensures in
-    let e4 = step_more l _ i (i + 3) (x1 ∷ x2 ∷ x3 ∷ []) e3 refl _ x4 four.put-step4.ensures in
-    let e5 = step_more l _ i (i + 4) (x1 ∷ x2 ∷ x3 ∷ x4 ∷ []) e4 refl _ x5 five.put-step5.ensures in
-    step_more l _ i (i + 5) (x1 ∷ x2 ∷ x3 ∷ x4 ∷ x5 ∷ []) e5 refl _ Fence six.put-step6.ensures
+    let e2 = step_more l _ i (i + 1) (x1 ∷ []) e1 refl _ x2 two.put_step-2.ensures in
+    let e3 = step_more l _ i (i + 2) (x1 ∷ x2 ∷ []) e2 refl _ x3 three.put_step-3.ensures in
+    let e4 = step_more l _ i (i + 3) (x1 ∷ x2 ∷ x3 ∷ []) e3 refl _ x4 four.put_step-4.ensures in
+    let e5 = step_more l _ i (i + 4) (x1 ∷ x2 ∷ x3 ∷ x4 ∷ []) e4 refl _ x5 five.put_step-5.ensures in
+    step_more l _ i (i + 5) (x1 ∷ x2 ∷ x3 ∷ x4 ∷ x5 ∷ []) e5 refl _ Fence six.put_step-6.ensures
 
 pub append_backs_spec : {M : Type 1} → statement M
 append_backs_spec =
     tie.close
     (tie.spec
-    (λ c. search rules) (λ c κs. search rules) (λ c. search rules) (λ c. search rules) (λ c κs. search rules)
-    (λ c. search rules) (λ c. search rules) (λ c κs. search rules) (λ c. search rules) (λ c. search rules)
-    (λ c κs. search rules) (λ c. search rules) (λ c. search rules) (λ c. search rules) (λ c κs. search rules)
-    (λ c. search rules) (λ c κs. search rules) (λ c. search rules) returns)
+    (λ c. search rules)
+    (λ c κs. search rules)
+    (λ c. search rules)
+    (λ c. search rules)
+    (λ c κs. search rules)
+    (λ c. search rules)
+    (λ c. search rules)
+    (λ c κs. search rules)
+    (λ c. search rules)
+    (λ c. search rules)
+    (λ c κs. search rules)
+    (λ c. search rules)
+    (λ c. search rules)
+    (λ c. search rules)
+    (λ c κs. search rules)
+    (λ c. search rules)
+    (λ c κs. search rules)
+    (λ c. search rules)
+    returns)

@@ -17,11 +17,16 @@ returns c =
     let x = Store a.place a.a in
     step_more l _ a.at (a.at + 1) (x ∷ []) (step_first l _ a.at x one.put_step.ensures) refl _
     (Store (a.place + 1) a.b)
-    two.put-step2.ensures
+    two.put_step-2.ensures
     ∙ ap (λ (q : ℕ). appended l a.at (x ∷ Store q a.b ∷ [])) (add-one a.place)
 
 pub append_pair_spec : {M : Type 1} → statement M
 append_pair_spec =
     tie.close
     (tie.spec
-    (λ c κs. search rules) (λ c. search rules) (λ c. search rules) (λ c κs. search rules) (λ c. search rules) returns)
+    (λ c κs. search rules)
+    (λ c. search rules)
+    (λ c. search rules)
+    (λ c κs. search rules)
+    (λ c. search rules)
+    returns)

@@ -21,11 +21,11 @@ returns c =
     let l = a.list.now in
     let p = a.place in
     let vs = h.before.word0.result ∷ h.word1.result ∷ [] in
-    stores_more l _ _ 0 14 p (p + j.key-word2.result) (vs ++ replicate 12 0) (a.key ∷ a.value ∷ [])
-    (stores_more l _ _ 0 2 p (p + i.key-word.result) vs (replicate 12 0) one.append-pair.ensures refl
-    (ap (λ (n : ℕ). p + n) i.key-word.ensures)
-    two.append-zeros.ensures)
-    refl (ap (λ (n : ℕ). p + n) j.key-word2.ensures) three.append-pair2.ensures
+    stores_more l _ _ 0 14 p (p + j.key_word-2.result) (vs ++ replicate 12 0) (a.key ∷ a.value ∷ [])
+    (stores_more l _ _ 0 2 p (p + i.key_word.result) vs (replicate 12 0) one.append_pair.ensures refl
+    (ap (λ (n : ℕ). p + n) i.key_word.ensures)
+    two.append_zeros.ensures)
+    refl (ap (λ (n : ℕ). p + n) j.key_word-2.ensures) three.append_pair-2.ensures
     ∙ ap₂ (λ (x y : ℕ). appended l 0 (stores_from p (x ∷ y ∷ (replicate 12 0 ++ (a.key ∷ a.value ∷ [])))))
     h.before.word0.ensures h.word1.ensures
 
@@ -33,5 +33,14 @@ pub write_lower_spec : {M : Type 1} → statement M
 write_lower_spec =
     tie.close
     (tie.spec
-    (λ c κs. search rules) (λ c κs. search rules) (λ c κs. search rules) (λ c κs. search rules) (λ c. search rules)
-    (λ c κs. search rules) (λ c κs. search rules) (λ c. search rules) (λ c κs. search rules) (λ c. search rules) returns)
+    (λ c κs. search rules)
+    (λ c κs. search rules)
+    (λ c κs. search rules)
+    (λ c κs. search rules)
+    (λ c. search rules)
+    (λ c κs. search rules)
+    (λ c κs. search rules)
+    (λ c. search rules)
+    (λ c κs. search rules)
+    (λ c. search rules)
+    returns)

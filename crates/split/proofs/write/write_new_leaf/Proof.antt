@@ -26,13 +26,13 @@ returns c =
     let l = a.list.now in
     let L = leaf_in a.leaf.now in
     let p = 32 * a.new in
-    new_leaf_lem l _ _ _ p (p + m.key-word.result) (p + n.sibling-word.result) a.up L a.moved.now a.key a.value (bits_of h.new-head.result)
-    k.or-zero.result
-    v.or-zero2.result x.next_of.result s.requires.2
-    (ap (λ (i : ℕ). p + i) m.key-word.ensures) (ap (λ (i : ℕ). p + i) n.sibling-word.ensures)
-    one.write-lower.ensures two.append-moved.ensures
-    three.append-pair.ensures
-    h.new-head.ensures k.or-zero.ensures v.or-zero2.ensures x.next_of.ensures
+    new_leaf_lem l _ _ _ p (p + m.key_word.result) (p + n.sibling_word.result) a.up L a.moved.now a.key a.value (bits_of h.new_head.result)
+    k.or_zero.result
+    v.or_zero-2.result x.next_of.result s.requires.2
+    (ap (λ (i : ℕ). p + i) m.key_word.ensures) (ap (λ (i : ℕ). p + i) n.sibling_word.ensures)
+    one.write_lower.ensures two.append_moved.ensures
+    three.append_pair.ensures
+    h.new_head.ensures k.or_zero.ensures v.or_zero-2.ensures x.next_of.ensures
     ∙ ap (λ (p : ℕ). appended l 0 (stores_from p (new_words a.up L a.moved.now a.key a.value)))
     (start_place a.new)
 
@@ -40,6 +40,17 @@ pub write_new_leaf_spec : {M : Type 1} → statement M
 write_new_leaf_spec =
     tie.close
     (tie.spec
-    (λ c. search rules) (λ c κs. search rules) (λ c κs. search rules) (λ c κs. search rules) (λ c κs. search rules)
-    (λ c κs. search rules) (λ c. search rules) (λ c κs. search rules) (λ c κs. search rules) (λ c. search rules)
-    (λ c κs. search rules) (λ c κs. search rules) (λ c. search rules) returns)
+    (λ c. search rules)
+    (λ c κs. search rules)
+    (λ c κs. search rules)
+    (λ c κs. search rules)
+    (λ c κs. search rules)
+    (λ c κs. search rules)
+    (λ c. search rules)
+    (λ c κs. search rules)
+    (λ c κs. search rules)
+    (λ c. search rules)
+    (λ c κs. search rules)
+    (λ c κs. search rules)
+    (λ c. search rules)
+    returns)

@@ -14,7 +14,7 @@ use Rattle.split.specs.Stores.{words_same, switched_same, split_whole}
 use Rattle.split.proofs.write.write_split.Statement.{statement}
 use Rattle.split.proofs.write.write_split.Tie as tie
 
-write-new-leaf-requires : tie.Need-write-new-leaf-requires
+write-new-leaf-requires : tie.Need-write_new_leaf-requires
 write-new-leaf-requires c κs =
     let s = c.before.before.before.before in
     (omega arith, omega arith, s.requires.2, s.requires.3, omega arith, s.requires.6)
@@ -35,13 +35,13 @@ returns c = λ w eh ev.
     (new_words a.up L a.moved.now a.key a.value) _ _ _
     (omega arith)
     (ap (λ (M : Leaf). length (moved_slots M)) ev ∙ ap (λ (r : List ℕ). length r) (sym s.requires.7) ∙ s.requires.2)
-    one.write-new-leaf.ensures
+    one.write_new_leaf.ensures
     (words_same w a.block a.new a.key a.value a.up L a.moved.now ev s.requires.7 s.requires.8)
     two.put_step.ensures
-    (ap (λ (i : ℕ). 32 * a.block + i) n.sibling-word.ensures
+    (ap (λ (i : ℕ). 32 * a.block + i) n.sibling_word.ensures
     ∙ ap (λ (i : ℕ). sib_place a.block (1 - i)) (t.alt.ensures ∙ ap alt_in (sym eh)))
-    three.append-backs.ensures
-    four.append-store.ensures
+    three.append_backs.ensures
+    four.append_store.ensures
     (start_place a.block)
     (z.word0.ensures
     ∙ ap low_word (s.requires.9
@@ -51,8 +51,16 @@ pub write_split_spec : {M : Type 1} → statement M
 write_split_spec =
     tie.close
     (tie.spec
-    write-new-leaf-requires (λ c. search rules) (λ c κs. search rules)
+    write-new-leaf-requires
+    (λ c. search rules)
+    (λ c κs. search rules)
     (λ c. let s = c.before.before.before.before.before.before.before.before.before in
     omega (arith, alt_lt (bits_of s.args.head), c.alt.ensures))
-    (λ c κs. search rules) (λ c. search rules) (λ c κs. search rules) (λ c κs. search rules)
-    (λ c κs. search rules) (λ c κs. search rules) (λ c. search rules) returns)
+    (λ c κs. search rules)
+    (λ c. search rules)
+    (λ c κs. search rules)
+    (λ c κs. search rules)
+    (λ c κs. search rules)
+    (λ c κs. search rules)
+    (λ c. search rules)
+    returns)

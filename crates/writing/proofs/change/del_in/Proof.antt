@@ -9,33 +9,39 @@ use Rattle.writing.specs.ChangeLaws.{by_slot, del_told}
 use Rattle.writing.proofs.change.del_in.Statement.{statement}
 use Rattle.writing.proofs.change.del_in.Tie as tie
 
-write-del-requires : tie.Need-write-del-requires
+write-del-requires : tie.Need-write_del-requires
 write-del-requires c κs =
-    let s = c.before.before in
-    (omega arith, omega arith, omega arith, omega arith, rw s.s.given.1 at s.before.before.slot-in.ensures.1, omega arith)
+    let s = c.before in
+    (omega arith, omega arith, omega arith, omega arith, rw s.in-At.is at s.before.slot_in.ensures.1, omega arith)
 
-returns : tie.Need-returns
+returns : tie.Need-returns-in-At
 returns c =
     let m = c.before.before.before in
-    let s = m.before.before.before in
-    let p = s.before.before in
+    let s = m.before.before in
+    let p = s.before in
     let a = p.before.before.before.args in
     let list = a.list.now in
     let r = reads a.image.now in
-    ap₂ made_as c.three-steps.ensures m.write-del.ensures ∙ del_told r a.before a.block s.s.given.0.0 list
-    ∙ ap (λ (x : Slot). by_slot x (λ t. del_list r a.before a.block t) list) (sym s.s.given.1 ∙ p.slot-in.ensures.0)
+    ap₂ made_as c.three_steps.ensures m.write_del.ensures ∙ del_told r a.before a.block s.in-At.s list
+    ∙ ap (λ (x : Slot). by_slot x (λ t. del_list r a.before a.block t) list) (sym s.in-At.is ∙ p.slot_in.ensures.0)
 
-returns-2 : tie.Need-returns-2
+returns-2 : tie.Need-returns-in-Missing
 returns-2 c =
-    let p = c.before.before in
+    let p = c.before in
     let a = p.before.before.before.args in
     let r = reads a.image.now in
     ap (λ (x : Slot). by_slot x (λ t. del_list r a.before a.block t) a.list.now)
-    (sym c.enum_told.given.1 ∙ p.slot-in.ensures.0)
+    (sym c.in-Missing.is ∙ p.slot_in.ensures.0)
 
 pub del_in_spec : {M : Type 1} → statement M
 del_in_spec =
     tie.close
     (tie.spec
-    (λ c κs. search rules) (λ c. search rules) write-del-requires (λ c κs. search rules) (λ c. search rules)
-    (λ c. search rules) returns returns-2)
+    (λ c κs. search rules)
+    (λ c. search rules)
+    write-del-requires
+    (λ c κs. search rules)
+    (λ c. search rules)
+    (λ c. search rules)
+    returns
+    returns-2)

@@ -6,5 +6,5 @@ pub is_alone_spec : {M : Type 1} → statement M
 is_alone_spec =
     tie.close
     (tie.spec
-    (λ c. rw (ne_eqb c.before.args.block 0 c.if1.true))
-    (λ c. rw (eq-eqb c.before.args.block 0 c.if1.false)))
+    (λ c. rw (ne_eqb c.before.args.block 0 c.if-block-ne0.true))
+    (λ c. rw (eq-eqb c.before.args.block 0 c.if-block-ne0.false)))

@@ -8,30 +8,36 @@ use Rattle.writing.specs.ChangeLaws.{by_slot, set_told}
 use Rattle.writing.proofs.change.set_in.Statement.{statement}
 use Rattle.writing.proofs.change.set_in.Tie as tie
 
-write-set-requires : tie.Need-write-set-requires
+write-set-requires : tie.Need-write_set-requires
 write-set-requires c κs =
-    let s = c.before.before in (omega arith, omega arith, rw s.s.given.1 at s.before.before.slot-in.ensures.1)
+    let s = c.before in (omega arith, omega arith, rw s.in-At.is at s.before.slot_in.ensures.1)
 
-returns : tie.Need-returns
+returns : tie.Need-returns-in-At
 returns c =
     let m = c.before.before.before in
-    let s = m.before.before.before in
-    let p = s.before.before in
+    let s = m.before.before in
+    let p = s.before in
     let a = p.before.before.before.args in
     let list = a.list.now in
-    ap₂ made_as c.three-steps.ensures m.write-set.ensures ∙ set_told a.block s.s.given.0.0 a.value list
-    ∙ ap (λ (x : Slot). by_slot x (λ t. set_list a.block t a.value) list) (sym s.s.given.1 ∙ p.slot-in.ensures.0)
+    ap₂ made_as c.three_steps.ensures m.write_set.ensures ∙ set_told a.block s.in-At.s a.value list
+    ∙ ap (λ (x : Slot). by_slot x (λ t. set_list a.block t a.value) list) (sym s.in-At.is ∙ p.slot_in.ensures.0)
 
-returns-2 : tie.Need-returns-2
+returns-2 : tie.Need-returns-in-Missing
 returns-2 c =
-    let p = c.before.before in
+    let p = c.before in
     let a = p.before.before.before.args in
     ap (λ (x : Slot). by_slot x (λ t. set_list a.block t a.value) a.list.now)
-    (sym c.enum_told.given.1 ∙ p.slot-in.ensures.0)
+    (sym c.in-Missing.is ∙ p.slot_in.ensures.0)
 
 pub set_in_spec : {M : Type 1} → statement M
 set_in_spec =
     tie.close
     (tie.spec
-    (λ c κs. search rules) (λ c. search rules) write-set-requires (λ c κs. search rules) (λ c. search rules)
-    (λ c. search rules) returns returns-2)
+    (λ c κs. search rules)
+    (λ c. search rules)
+    write-set-requires
+    (λ c κs. search rules)
+    (λ c. search rules)
+    (λ c. search rules)
+    returns
+    returns-2)

@@ -10,10 +10,12 @@ pub full_lines_spec : {M : Type 1} → statement M
 full_lines_spec =
     tie.close
     (tie.spec
-    (λ c. search rules) (λ c κs. search rules) (λ c. search rules)
-    (λ c. (rw (eq-eqb c.before.args.n 42 c.if1.true), omega arith, omega arith))
+    (λ c. search rules)
+    (λ c κs. search rules)
+    (λ c. search rules)
+    (λ c. (rw (eq-eqb c.before.args.n 42 c.if-n-eq42.true), omega arith, omega arith))
     (λ c. let b = c.before in (
-      rw (ne_eqb b.before.args.n 42 b.if1.false) (ap (λ (x : ℕ). 6 + x) c.plain_lines.ensures.0),
+      rw (ne_eqb b.before.args.n 42 b.if-n-eq42.false) (ap (λ (x : ℕ). 6 + x) c.plain_lines.ensures.0),
       omega arith,
       omega arith,
     )))

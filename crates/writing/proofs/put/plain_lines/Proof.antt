@@ -7,5 +7,5 @@ pub plain_lines_spec : {M : Type 1} → statement M
 plain_lines_spec =
     tie.close
     (tie.spec
-    (λ c. (rw (eq-eqb c.before.args.n 5 c.if1.true), omega arith))
-    (λ c. (rw (ne_eqb c.before.args.n 5 c.if1.false), omega arith)))
+    (λ c. (rw (eq-eqb c.before.args.n 5 c.if-n-eq5.true), omega arith))
+    (λ c. (rw (ne_eqb c.before.args.n 5 c.if-n-eq5.false), omega arith)))

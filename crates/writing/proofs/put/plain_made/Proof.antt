@@ -8,6 +8,9 @@ use Rattle.writing.proofs.put.plain_made.Tie as tie
 pub plain_made_spec : {M : Type 1} → statement M
 plain_made_spec =
     tie.close
-    (tie.spec (λ c κs. search rules) (λ c. search rules) (λ c. search rules)
+    (tie.spec
+    (λ c κs. search rules)
+    (λ c. search rules)
+    (λ c. search rules)
     (λ c. let n = c.before.args.n in
-    ap (λ (x : ℕ). Steps n (record { 0 = x }) (record { 0 = n - 2 * x })) c.plain_lines.ensures.0))
+    ap (λ (x : ℕ). Steps n (record { 0 = x }) (record { 0 = n - 2 * x })) c.plain_lines-lines.ensures.0))

@@ -13,14 +13,21 @@ returns c =
     let p = c.before.before.before in
     let a = p.before.before.before.before.before.args in
     let l = a.image.now in
-    plain_wrote _ _ _ _ _ _ _ _ _ p.append-put-at.ensures (leaves l a.block) c.plain-made.result
+    plain_wrote _ _ _ _ _ _ _ _ _ p.append_put_at-n.ensures (leaves l a.block) c.plain_made.result
     (part_leaf l a.block (256 * a.block) (256 * a.block + 256) refl refl)
     (omega arith)
-    c.plain-made.ensures
+    c.plain_made.ensures
 
 pub put_plain_spec : {M : Type 1} → statement M
 put_plain_spec =
     tie.close
-    (tie.spec (λ c. search rules) (λ c. search rules) (λ c. search rules) (λ c. search rules) (λ c. search rules)
-    (λ c κs. search rules) (λ c κs. plain_some _ _ _ _ _ _ _ _ _ c.before.before.append-put-at.ensures)
-    (λ c. search rules) returns)
+    (tie.spec
+    (λ c. search rules)
+    (λ c. search rules)
+    (λ c. search rules)
+    (λ c. search rules)
+    (λ c. search rules)
+    (λ c κs. search rules)
+    (λ c κs. plain_some _ _ _ _ _ _ _ _ _ c.before.before.append_put_at-n.ensures)
+    (λ c. search rules)
+    returns)

@@ -12,43 +12,49 @@ use Rattle.writing.specs.PutLaws.{put_by, out_apart}
 use Rattle.writing.proofs.put.put_split.Statement.{statement}
 use Rattle.writing.proofs.put.put_split.Tie as tie
 
-put-full-requires : tie.Need-put-full-requires
+put-full-requires : tie.Need-put_full-requires
 put-full-requires c κs =
-    let x = c.before.before in
-    let p = x.before.before in
+    let x = c.before in
+    let p = x.before in
     let s = p.before.before.before in
     let a = s.args in
-    let r = lowest_at (λ b. not (is_in (blocks_in a.met) b)) (blocks a.image.now) 0 x.c.given.0.0
-    (sym p.lowest-out.ensures ∙ x.c.given.1) in (
+    let r = lowest_at (λ b. not (is_in (blocks_in a.met) b)) (blocks a.image.now) 0 x.in-At.c
+    (sym p.lowest_out.ensures ∙ x.in-At.is) in (
       omega arith,
       omega arith,
       omega (arith, r.below),
       omega arith,
       s.requires.4,
-      out_apart (blocks_in a.met) a.block x.c.given.0.0 s.requires.5 r.passes,
+      out_apart (blocks_in a.met) a.block x.in-At.c s.requires.5 r.passes,
       s.requires.6,
       s.requires.7,
     )
 
-returns : tie.Need-returns
+returns : tie.Need-returns-in-At
 returns c =
     let y = c.before.before in
-    let x = y.before.before.before in
-    let p = x.before.before in
+    let x = y.before.before in
+    let p = x.before in
     let a = p.before.before.before.args in
     y.put_full.ensures
     ∙ ap (λ (z : Slot). put_by Missing Missing z (reads a.image.now) a.block a.key a.value a.list.now)
-    (sym x.c.given.1 ∙ p.lowest-out.ensures)
+    (sym x.in-At.is ∙ p.lowest_out.ensures)
 
-returns-2 : tie.Need-returns-2
+returns-2 : tie.Need-returns-in-Missing
 returns-2 c =
-    let p = c.before.before in
+    let p = c.before in
     let a = p.before.before.before.args in
     ap (λ (z : Slot). put_by Missing Missing z (reads a.image.now) a.block a.key a.value a.list.now)
-    (sym c.enum_told.given.1 ∙ p.lowest-out.ensures)
+    (sym c.in-Missing.is ∙ p.lowest_out.ensures)
 
 pub put_split_spec : {M : Type 1} → statement M
 put_split_spec =
     tie.close
     (tie.spec
-    (λ c κs. search rules) (λ c. search rules) put-full-requires (λ c. search rules) (λ c. search rules) returns returns-2)
+    (λ c κs. search rules)
+    (λ c. search rules)
+    put-full-requires
+    (λ c. search rules)
+    (λ c. search rules)
+    returns
+    returns-2)
