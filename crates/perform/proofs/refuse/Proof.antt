@@ -5,4 +5,6 @@ use Rattle.perform.proofs.refuse.Tie as tie
 
 pub refuse_spec : {M : Type 1} → statement M
 refuse_spec =
-    tie.close (tie.spec (λ c κs. search rules) (λ c. (line_text _ _ _ _ c.answer-line.ensures.0, c.answer-line.ensures.1)))
+    tie.close (tie.spec
+    (λ c κs. search rules)
+    (λ c. (line_text _ _ _ _ c.answer_line.ensures.0, c.answer_line.ensures.1)))

@@ -6,5 +6,8 @@ use Rattle.board.proofs.making.hut_put.Tie as tie
 pub hut_put_spec : {M : Type 1} → statement M
 hut_put_spec =
     tie.close
-    (tie.spec (λ c κs. search rules) (λ c κs. search rules) (λ c. search rules)
-    (λ c. let f = c.before.before.before.put in made_beside f.result _ _ _ _ _ _ c.told-made.ensures f.ensures))
+    (tie.spec
+    (λ c κs. search rules)
+    (λ c κs. search rules)
+    (λ c. search rules)
+    (λ c. let f = c.before.before.before.put in made_beside f.result _ _ _ _ _ _ c.told_made.ensures f.ensures))

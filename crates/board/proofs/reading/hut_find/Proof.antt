@@ -7,6 +7,8 @@ use Rattle.board.proofs.reading.hut_find.Tie as tie
 pub hut_find_spec : {M : Type 1} → statement M
 hut_find_spec =
     tie.close
-    (tie.spec (λ c κs. search rules) (λ c κs. search rules)
-    (λ c. let t = c.told-found.ensures in
+    (tie.spec
+    (λ c κs. search rules)
+    (λ c κs. search rules)
+    (λ c. let t = c.told_found.ensures in
     ap₂ told t.0 t.1 ∙ c.before.find.ensures))

@@ -7,6 +7,10 @@ use Rattle.board.proofs.reading.hut_recovery.Tie as tie
 pub hut_recovery_spec : {M : Type 1} → statement M
 hut_recovery_spec =
     tie.close
-    (tie.spec (λ c κs. search rules) (λ c κs. search rules) (λ c. search rules) (λ c. search rules)
+    (tie.spec
+    (λ c κs. search rules)
+    (λ c κs. search rules)
+    (λ c. search rules)
+    (λ c. search rules)
     (λ c. let f = c.before.before.before.before.before.recovery in
-    recovered_beside (recovered_as f.result) _ _ _ _ _ _ c.told-recovered.ensures f.ensures))
+    recovered_beside (recovered_as f.result) _ _ _ _ _ _ c.told_recovered.ensures f.ensures))

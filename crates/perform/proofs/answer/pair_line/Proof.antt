@@ -11,8 +11,11 @@ returns c =
     let w = c.before.before in
     let a = w.before.before.before.args in
     let xs = marked a.a 9 ++ marked a.b 10 in
-    line_written a.buf.now xs _ _ _ (pair_is_line a.a a.b) w.write-pair.ensures
-    (omega (arith, w.write-pair.ensures.0, pair_short a.a a.b 10 (omega arith) (omega arith)))
+    line_written a.buf.now xs _ _ _ (pair_is_line a.a a.b) w.write_pair.ensures
+    (omega (arith, w.write_pair.ensures.0, pair_short a.a a.b 10 (omega arith) (omega arith)))
 
 pub pair_line_spec : {M : Type 1} → statement M
-pair_line_spec = tie.close (tie.spec (λ c κs. search rules) (λ c. search rules) returns)
+pair_line_spec = tie.close (tie.spec
+    (λ c κs. search rules)
+    (λ c. search rules)
+    returns)

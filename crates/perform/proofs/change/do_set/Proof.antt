@@ -7,8 +7,14 @@ returns : tie.Need-returns
 returns c =
     let t = c.before.before in
     let p = t.before.before.before.before.before in
-    let a = p.before.before.before.before.args in
-    (taken_as a.image.now _ _ _ _ _ _ p.hut-set.ensures t.take.ensures.0, t.take.ensures.1)
+    let a = p.before.before.before.args in
+    (taken_as a.image.now _ _ _ _ _ _ p.hut_set-made.ensures t.take.ensures.0, t.take.ensures.1)
 
 pub do_set_spec : {M : Type 1} → statement M
-do_set_spec = tie.close (tie.spec (λ c. search rules) (λ c κs. search rules) (λ c. search rules) (λ c κs. search rules) (λ c. search rules) returns)
+do_set_spec = tie.close (tie.spec
+    (λ c. search rules)
+    (λ c κs. search rules)
+    (λ c. search rules)
+    (λ c κs. search rules)
+    (λ c. search rules)
+    returns)

@@ -10,9 +10,13 @@ returns c =
     let a = w.before.before.before.before.args in
     let m = a.made in (
       taken_done a.image.now (made_is m.answer m.steps m.line_writes m.word_writes a.list.now) _ _ _ _
-          w.run_accepted.ensures c.answer-line.ensures.0,
-      c.answer-line.ensures.1,
+          w.run_accepted.ensures c.answer_line.ensures.0,
+      c.answer_line.ensures.1,
     )
 
 pub take_spec : {M : Type 1} → statement M
-take_spec = tie.close (tie.spec (λ c κs. search rules) (λ c κs. search rules) (λ c. search rules) returns)
+take_spec = tie.close (tie.spec
+    (λ c κs. search rules)
+    (λ c κs. search rules)
+    (λ c. search rules)
+    returns)

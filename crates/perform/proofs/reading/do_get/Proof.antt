@@ -5,9 +5,12 @@ use Rattle.perform.proofs.reading.do_get.Tie as tie
 
 returns : tie.Need-returns
 returns c = (
-  got_line _ _ _ _ _ c.before.before.hut-find.ensures c.pair_line.ensures.0,
+  got_line _ _ _ _ _ c.before.before.hut_find-found.ensures c.pair_line.ensures.0,
   c.pair_line.ensures.1,
 )
 
 pub do_get_spec : {M : Type 1} → statement M
-do_get_spec = tie.close (tie.spec (λ c κs. search rules) (λ c κs. search rules) returns)
+do_get_spec = tie.close (tie.spec
+    (λ c κs. search rules)
+    (λ c κs. search rules)
+    returns)

@@ -49,7 +49,7 @@ returns-4 c =
     (reads l) t a.key
     a.value
     list in
-    m.put_in.ensures
+    c.before.before.put_in.ensures
     ∙ ap (λ (st : State). by st.target st.met) s.survey-w.ensures
     ∙ (λ i.
     let t = noted_target l a.key fine e i in
