@@ -10,7 +10,7 @@ requires-2 : tie.Need-write_pair-requires
 requires-2 c κs =
     let w = c.before.before.before in
     let a = w.before.before.before.args in
-    omega (arith, w.write_pair-third.ensures.0, w.write_pair-third.auto.0, pair_short a.a a.b 9 (omega arith) (omega arith))
+    omega (arith, w.write_pair-third.ensures.0, w.write_pair-third.auto.buf, pair_short a.a a.b 9 (omega arith) (omega arith))
 
 returns : tie.Need-returns
 returns c =

@@ -35,7 +35,7 @@ loop-again c =
     (omega (arith, k.before.shared_slice_known-2-1.given i)) in (
       omega arith,
       omega (arith, w.write_pair-end.ensures.0, short),
-      w.write_pair-end.auto.0 ∙ k.loop-i.invariant.2,
+      w.write_pair-end.auto.buf ∙ k.loop-i.invariant.2,
       row_stored a.buf.now keys values i _ _ _ _ k.loop-i.invariant.3 w.write_pair-end.ensures,
     )
 

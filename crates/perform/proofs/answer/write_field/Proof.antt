@@ -12,7 +12,7 @@ slice-write : tie.Need-bounds-buf-end
 slice-write c =
     let w = c.before.before in
     let short = decimal_short w.before.before.before.args.n (omega arith) in
-    omega (arith, short, w.write_number-end.ensures.0, w.write_number-end.auto.0)
+    omega (arith, short, w.write_number-end.ensures.0, w.write_number-end.auto.buf)
 
 add-result : tie.Need-overflow_add-result
 add-result c =

@@ -9,7 +9,7 @@ requires-2 : tie.Need-write_field-requires
 requires-2 c κs =
     let w = c.before.before.before in
     let short = marked_short w.before.before.before.args.a 9 (omega arith) in
-    omega (arith, short, w.write_field-second.ensures.0, w.write_field-second.auto.0)
+    omega (arith, short, w.write_field-second.ensures.0, w.write_field-second.auto.buf)
 
 returns : tie.Need-returns
 returns c =
