@@ -20,8 +20,8 @@ use Rattle.index.specs.Reading.{entries_in}
 use Rattle.lists.specs.Served.{per_put, per_change}
 use Rattle.writing.specs.Writing.{Outcome, put_of, set_of, del_of}
 use Rattle.demands.specs.Holds.{Holds}
-use Rattle.demands.specs.Accepted.{set_accepted, del_accepted, put_accepted}
-use Rattle.demands.specs.Carried.{Carried, carried, sound_holds, left_holds}
+
+use Rattle.demands.specs.Carried.{Carried}
 
 -- ---- what is demanded
 
@@ -69,32 +69,3 @@ abbrev pub price : Call → ℕ
 price (put k v) = per_put
 price (set k v) = per_change
 price (del k) = per_change
-
-pub carried_call : (call : Call) (image list : List ℕ) → Bytes image → Numbers call → (answered call image list).answer ≡ 0
-    → Carried image (answered call image list) (after call (entries_in image)) (price call)
-carried_call (put k v) image list b n e =
-    carried image list _ (put_in k v (entries_in image)) per_put (put_accepted image list k b v n.0 n.1 e)
-carried_call (set k v) image list b n e =
-    carried image list _ (put_in k v (entries_in image)) per_change (set_accepted image list k b v n.1 e)
-carried_call (del k) image list b n e =
-    carried image list _ (without k (entries_in image)) per_change (del_accepted image list k b e)
-
--- ---- THE DEMAND
-
--- "On every sound image find, (..) and listing agree with a plain map"
-pub agrees : (image : List ℕ) → bad_image (length image) ≡ false → SoundImage image → Holds image (entries_in image)
-agrees = sound_holds
-
-pub demand2 : (call : Call) (image list : List ℕ) → Bytes image → Numbers call → (answered call image list).answer ≡ 0
-    → Demanded call image list
-demand2 call image list b n e =
-    let C = carried_call call image list b n e in
-    record {
-      accepted = C.accepted;
-      whole = left_holds C.fine C.whole;
-      settled = C.settled;
-      cut = λ m arrivals h a. elim (C.cuts m arrivals h a) [
-        | inl x ↦ inl (left_holds C.fine x)
-        | inr x ↦ inr (left_holds C.fine x)
-      ];
-    }

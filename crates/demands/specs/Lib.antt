@@ -8,12 +8,10 @@ pub mod Sentences
 pub mod Demand1
 pub mod Malformed
 pub mod Holds
-pub mod Free
 pub mod Accepted
 pub mod Carried
 pub mod Demand2
 pub mod Demand3
-pub mod Freed
 pub mod Alike
 pub mod Computing
 pub mod Cases

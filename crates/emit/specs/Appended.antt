@@ -3,7 +3,7 @@ use Rattle.std.specs.Prelude.{ℕ, suc, ◌+◌, ◌*◌, ◌≤◌, List, [], �
 use Rattle.std.proofs.Common.{arith, append_assoc, append-nil, sym, ap, ◌∙◌, length-append, length-set}
 use Rattle.steps.specs.declared.Step.{Step}
 use Rattle.steps.specs.Encoding.{written, put_step}
-use Rattle.steps.specs.EncodingLaws.{written_next}
+use Rattle.steps.proofs.EncodingLaws.{written_next}
 use Rattle.lists.specs.Lists.{word_place}
 
 unfoldable pub appended : List ℕ → ℕ → List Step → List ℕ

@@ -8,7 +8,7 @@ use Rattle.header.specs.Header.{marked, cleared, fingerprint_of}
 use Rattle.leaf.specs.Leaf.{Leaf, occ_in}
 use Rattle.steps.specs.declared.Step.{Step}
 use Rattle.image.specs.Copies.{Copy, copies}
-use Rattle.lists.specs.Beside.{copy_length}
+use Rattle.lists.proofs.Beside.{copy_length}
 use Rattle.lists.specs.Lists.{copy_steps, copied_head, copies_beside, filled_head, entry_steps, last_beside}
 use Rattle.emit.specs.Appended.{appended, appended_length, stretch_more}
 

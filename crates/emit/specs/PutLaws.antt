@@ -10,7 +10,7 @@ use Rattle.steps.specs.declared.Step.{Step}
 use Rattle.steps.specs.declared.Step.TheVariants.{Store as store, WriteBack as writeBack, Fence as fence}
 use Rattle.steps.specs.Model.{line}
 use Rattle.steps.specs.Shapes.{one_store}
-use Rattle.lists.specs.Beside.{copy_length}
+use Rattle.lists.proofs.Beside.{copy_length}
 use Rattle.lists.specs.Lists.{word_place, key_place, low_word, high_word, entry_steps, copy_steps, copies_beside, filled_head}
 use Rattle.lists.specs.Lists.{near_put, far_put, put_at, put_found, plain_put}
 use Rattle.emit.specs.Appended.{appended, Wrote, stretch_more}

@@ -1,8 +1,5 @@
 -- To believe: Fields, Header. Proved of them: FieldLaws, Lowest, Xor, HeaderCode (what the code computes is what they say), HeaderLaws.
 pub mod Fields
-pub mod FieldLaws
 pub mod Lowest
-pub mod Xor
 pub mod Header
 pub mod HeaderCode
-pub mod HeaderLaws

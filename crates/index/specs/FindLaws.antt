@@ -9,51 +9,15 @@ use Rattle.leaf.specs.declared.search.Slot.TheVariants.{At, Missing}
 use Rattle.steps.specs.Refusals.{answer, bad_image}
 use Rattle.image.specs.Map.{lookup}
 use Rattle.image.specs.Entries.{list_of}
-use Rattle.image.specs.Answers.{value_at, find_lookup}
+use Rattle.image.specs.Answers.{value_at}
+use Rattle.image.proofs.Answers.{find_lookup}
 use Rattle.image.specs.Image.{blocks, leaves}
 use Rattle.survey.specs.Walk.{surveyed}
 use Rattle.index.specs.Reading.{is_sound, entries_in, Told, told, found_as, is_none, value_or0, find_of}
-use Rattle.index.specs.SoundTest.{says_yes, says_no, noted_around}
 use Rattle.index.specs.declared.find.Found.{Found}
 use Rattle.index.specs.declared.find.Found.TheVariants.{Value, BadImage, Unsound, Absent}
-
--- the answer by the three tests
-abbrev pub find_by : Bool → Bool → Option ℕ → Told
-find_by bad sound v =
-    let n = answer ((1, bad) ∷ (3, not sound) ∷ (5, is_none v) ∷ []) in told n (cond (eqb n 0) (value_or0 v) 0)
 
 -- what a leaf answers
 abbrev pub found_at : Leaf → Slot → Found
 found_at L (At s) = Value (L.val s)
 found_at L Missing = Absent
-
--- the map's answer at k is that of the leaf that the survey noted
-pub noted_lookup : (l : List ℕ) (k : ℕ) → bad_image (length l) ≡ false → (surveyed (leaves l) (blocks l) k).stage ≡ 1
-    → let b = (surveyed (leaves l) (blocks l) k).target in value_at (leaves l b) (slot_of (leaves l b) k) ≡ lookup k (entries_in l)
-unfolding entries_in
-noted_lookup l k fine e =
-    let t = noted_around l k fine e in
-    find_lookup (leaves l) (blocks l) t.front (surveyed (leaves l) (blocks l) k).target t.behind t.sound k t.target_is
-    ∙ ap (λ (bs : List ℕ). lookup k (list_of (leaves l) bs)) (sym t.whole)
-
-module _ (l : List ℕ) (k : ℕ) where
-  pub find_bad : bad_image (length l) ≡ true → found_as BadImage ≡ find_of l k
-  unfolding find_of
-  find_bad e = λ i. find_by (sym e i) (is_sound l) (lookup k (entries_in l))
-
-  pub find_unsound : bad_image (length l) ≡ false → ((surveyed (leaves l) (blocks l) k).stage ≡ 1 → ⊥) → found_as Unsound ≡ find_of l k
-  unfolding find_of
-  find_unsound fine ne = λ i. find_by (sym fine i) (sym (says_no l k fine ne) i) (lookup k (entries_in l))
-
-  pub find_slot : bad_image (length l) ≡ false → (surveyed (leaves l) (blocks l) k).stage ≡ 1
-      → let b = (surveyed (leaves l) (blocks l) k).target in found_as (found_at (leaves l b) (slot_of (leaves l b) k)) ≡ find_of l k
-  unfolding find_of
-  find_slot fine e =
-      by (slot_of L k) ∙ (λ i. find_by (sym fine i) (sym (says_yes l k fine e) i) (noted_lookup l k fine e i))
-    where
-      L : Leaf
-      L = leaves l (surveyed (leaves l) (blocks l) k).target
-
-      by : (x : Slot) → found_as (found_at L x) ≡ find_by false true (value_at L x)
-      by (At s) = refl
-      by Missing = refl

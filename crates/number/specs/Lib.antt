@@ -1,5 +1,3 @@
 -- To believe: Decimal. Reading has the shape of the code; DecimalLaws says what Reading means.
 pub mod Decimal
 pub mod Reading
-pub mod ReadingLaws
-pub mod DecimalLaws

@@ -8,10 +8,12 @@ use Rattle.std.proofs.Math.ListN.{length-take}
 use Rattle.leaf.specs.Leaf.{Leaf}
 use Rattle.steps.specs.Refusals.{answer}
 use Rattle.image.specs.Map.{Entry, only, starting_at}
-use Rattle.image.specs.Order.{slots_of, slots_within}
-use Rattle.image.specs.Entries.{entries_of, entries_length, list_of}
+use Rattle.image.specs.Order.{slots_of}
+use Rattle.image.proofs.Order.{slots_within}
+use Rattle.image.specs.Entries.{entries_of, list_of}
+use Rattle.image.proofs.Entries.{entries_length}
 use Rattle.image.specs.Image.{blocks, leaves}
-use Rattle.image.specs.Blocks.{view_size}
+use Rattle.image.proofs.Blocks.{view_size}
 use Rattle.words.specs.Words.{reads}
 use Rattle.index.specs.Reading.{chain_from, chain_of, entries_in, listing_table, Listing, Counted, counted, listing_is, over, listed, listing_of}
 use Rattle.perform.specs.Perform.{row, rows}

@@ -5,7 +5,7 @@ use Rattle.std.proofs.Math.Decide.{dec_lt}
 use Rattle.std.proofs.lemmas.List.Edits.{sets, sets-eq}
 use Rattle.std.proofs.Math.Seq.{length-sets}
 use Rattle.number.specs.Decimal.{decimal}
-use Rattle.number.specs.DecimalLaws.{decimal_small, decimal_more}
+use Rattle.number.proofs.DecimalLaws.{decimal_small, decimal_more}
 use Rattle.perform.specs.Perform.{line_of, text_of, Written}
 
 -- new is old with bytes stored from a place on, and next the place behind them

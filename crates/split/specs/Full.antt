@@ -10,14 +10,15 @@ use Rattle.leaf.specs.Leaf.{Leaf, Right, leaf_in, view}
 use Rattle.leaf.specs.Search.{count}
 use Rattle.steps.specs.declared.Step.{Step}
 use Rattle.steps.specs.Encoding.{written}
-use Rattle.image.specs.Order.{slots_from, slots_of, slots_count}
+use Rattle.image.specs.Order.{slots_from, slots_of}
+use Rattle.image.proofs.Order.{slots_count}
 use Rattle.order.specs.Insertion.{Ordered, slots_below}
 use Rattle.lists.specs.Lists.{head_in, plain_put}
 use Rattle.lists.specs.FullLists.{moved_slots, first_key, goes_up, split_list, put_below, full_put}
-use Rattle.lists.specs.FullPut.{moved}
+use Rattle.lists.proofs.FullPut.{moved}
 use Rattle.lists.specs.Served.{Small}
-use Rattle.lists.specs.Sizes.{split_length}
-use Rattle.lists.specs.AfterSplit.{plain_after}
+use Rattle.lists.proofs.Sizes.{split_length}
+use Rattle.lists.proofs.AfterSplit.{plain_after}
 use Rattle.emit.specs.Appended.{appended, Wrote, appended_written}
 use Rattle.split.specs.Stores.{switched_same}
 

@@ -12,11 +12,12 @@ use Rattle.steps.specs.declared.Step.{Step}
 use Rattle.steps.specs.declared.Step.TheVariants.{Store as store, Fence as fence}
 use Rattle.steps.specs.Encoding.{written, put_step}
 use Rattle.steps.specs.Shapes.{one_store}
-use Rattle.steps.specs.Stores.{stores_from, stores_length}
+use Rattle.steps.specs.Stores.{stores_from}
+use Rattle.steps.proofs.Stores.{stores_length}
 use Rattle.lists.specs.Lists.{word_place, sib_place, low_word, high_word, head_in}
 use Rattle.lists.specs.FullLists.{moved_slots, goes_up, new_header, entry_words, new_words, switched_head}
 use Rattle.lists.specs.FullLists.{split_stores, split_backs, split_list}
-use Rattle.lists.specs.Sizes.{new_length, split_length, entry_length}
+use Rattle.lists.proofs.Sizes.{new_length, split_length, entry_length}
 use Rattle.emit.specs.Appended.{appended, appended_append, appended_start, step_first, stretch_more}
 use Rattle.split.specs.Heads.{drop_next, drop_end}
 

@@ -1,15 +1,9 @@
-pub mod Indices
 pub mod Model
 pub mod Settling
 pub mod Section
-pub mod Concatenation
 pub mod Encoding
 pub mod Lists
-pub mod EncodingLaws
 pub mod Shapes
 pub mod Stores
-pub mod Rules
 pub mod LastFence
-pub mod Views
 pub mod Refusals
-pub mod Cases

@@ -11,19 +11,3 @@ answer (row ∷ rows) = cond row.1 row.0 (answer rows)
 -- 1: "image length 0, over 65,536, or no multiple of 256"
 unfoldable pub bad_image : ℕ → Bool
 bad_image size = eqb size 0 || (ltb 65536 size || not (eqb (size % 256) 0))
-
--- ---- laws
-
--- a row whose condition holds gives its number, ..
-pub row_given : {given : Bool} (number others : ℕ) → given ≡ true → cond given number others ≡ number
-row_given number others e = ap (λ (b : Bool). cond b number others) e
-
--- .. one whose condition does not hold leaves it to the others, ..
-pub row_left : {given : Bool} (number others : ℕ) → given ≡ false → cond given number others ≡ others
-row_left number others e = ap (λ (b : Bool). cond b number others) e
-
--- .. and a call that is accepted has passed its first row, and the others
-pub row_passed : (number : ℕ) (given : Bool) (others : ℕ) → 0 < number → cond given number others ≡ 0
-    → (given ≡ false) × (others ≡ 0)
-row_passed number true others h e = absurd (omega arith)
-row_passed number false others h e = (refl, e)

@@ -7,7 +7,3 @@ use Rattle.steps.specs.Model.{Step, store}
 abbrev pub stores_from : ℕ → List ℕ → List Step
 stores_from q [] = []
 stores_from q (v ∷ vs) = store q v ∷ stores_from (suc q) vs
-
-pub stores_length : (q : ℕ) (vs : List ℕ) → length (stores_from q vs) ≡ length vs
-stores_length q [] = refl
-stores_length q (v ∷ vs) = ap suc (stores_length (suc q) vs)

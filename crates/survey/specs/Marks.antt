@@ -9,12 +9,12 @@ use Rattle.std.proofs.lemmas.Nat.{or_block}
 use Rattle.std.proofs.Math.Pow.{split}
 use Rattle.words.specs.Update.{upd, upd_same, upd_other}
 use Rattle.header.specs.Fields.{field, patched}
-use Rattle.header.specs.FieldLaws.{field_patched, field_apart}
+use Rattle.header.proofs.FieldLaws.{field_patched, field_apart}
 use Rattle.header.specs.Header.{whole}
-use Rattle.header.specs.HeaderCode.{field_low, field_high, patched_low, patched_high}
+use Rattle.header.proofs.HeaderCode.{field_low, field_high, patched_low, patched_high}
 use Rattle.header.specs.Lowest.{LowestZero}
 use Rattle.leaf.specs.Search.{lowest}
-use Rattle.leaf.specs.SearchLaws.{lowest_is, lowest_not}
+use Rattle.leaf.proofs.SearchLaws.{lowest_is, lowest_not}
 use Rattle.leaf.specs.declared.search.Slot.TheVariants.{At, Missing}
 use Rattle.survey.specs.declared.marks.Marks.{Marks}
 

@@ -15,7 +15,7 @@ use Rattle.words.specs.BelowLaws.{count_most}
 use Rattle.header.specs.Header.{is_locked}
 use Rattle.leaf.specs.Leaf.{Leaf, leaf_in, view}
 use Rattle.leaf.specs.Search.{smallest_of, count}
-use Rattle.leaf.specs.TallyLaws.{least_reaches, smallest_is}
+use Rattle.leaf.proofs.TallyLaws.{least_reaches, smallest_is}
 use Rattle.leaf.specs.Tally.{Tells, wrong_at, at_most, most_to, twins}
 use Rattle.leaf.specs.declared.tally.Tally.{Tally}
 use Rattle.survey.specs.Walk.{State, stopped, moved, first_fault, again_by, bare_by, low_by, fault_by, reached_by, smallest_by, fault_of, judged, start, walk, surveyed, visited, NotedTo, Noted}

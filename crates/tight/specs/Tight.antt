@@ -9,75 +9,36 @@ use Rattle.demands.specs.Demand2.{put, answered}
 use Rattle.demands.specs.Demand3.{ran, taken, Run, blank, whole, cut}
 use Rattle.demands.specs.Computing.{computing}
 
-abbrev list : List ℕ
+abbrev pub list : List ℕ
 list = replicate 112 0
 
 -- the put that follows n puts of the keys 1 to n, and the image after n
-abbrev made : List ℕ → ℕ → Outcome
+abbrev pub made : List ℕ → ℕ → Outcome
 made image n = answered (put (suc n) 100) image list
 
-abbrev after : ℕ → List ℕ
+abbrev pub after : ℕ → List ℕ
 after zero = replicate 512 0
 after (suc n) = ran (after n) (made (after n) n)
 
-abbrev total : ℕ → ℕ
+abbrev pub total : ℕ → ℕ
 total zero = 0
 total (suc n) = total n + taken (made (after n) n) (made (after n) n).steps
 
-abbrev Accepted : ℕ → Type 0
+abbrev pub Accepted : ℕ → Type 0
 Accepted zero = Unit {0}
 Accepted (suc n) = Accepted n × ((made (after n) n).answer ≡ 0)
 
-filled : (n : ℕ) → n ≤ 14 → Accepted n → Run (after n) n 0 0 0 (total n)
-filled zero h a = blank 2 (omega arith) (omega arith)
-filled (suc n) h a =
-    let e : n + 1 ≡ suc n = omega arith in
-    subst (λ (i : ℕ). Run (after (suc n)) i 0 0 0 (total (suc n))) e
-    (whole (filled n (omega arith) a.0) (put (suc n) 100) list (omega arith, omega arith) a.1)
-
-full : Run (after 14) 14 0 0 0 17
-unfolding computing
-full =
-    filled 14 (omega arith)
-    (((((((((((((((tt, refl), refl), refl), refl), refl), refl), refl), refl), refl), refl), refl), refl), refl), refl))
-
 -- by line: of block 0 the link to the new leaf, and the new leaf whole
-abbrev arrivals : List ℕ
+abbrev pub arrivals : List ℕ
 arrivals = 0 ∷ 0 ∷ 0 ∷ 1 ∷ 8 ∷ 8 ∷ 8 ∷ 8 ∷ []
 
-abbrev left : List ℕ → List ℕ
+abbrev pub left : List ℕ → List ℕ
 left image = (cut_of image (made image 14).list 41 arrivals).image
 
 -- an image that such a cut leaves as it is
-record Stays (image : List ℕ) : Type 0 where
+pub record Stays (image : List ℕ) : Type 0 where
   accepted : (made image 14).answer ≡ 0
   steps : 41 ≤ (made image 14).steps
   permitted : (cut_of image (made image 14).list 41 arrivals).answer ≡ 0
   lines : taken (made image 14) 41 ≡ 6
   same : left image ≡ image
-
-again : (image : List ℕ) → Stays image → (n W : ℕ) → Run image 14 0 0 n W → Run image 14 0 0 (suc n) (W + 6)
-again image s n W r =
-    let e : n + 1 ≡ suc n = omega arith in
-    subst (λ (x : List ℕ). Run x 14 0 0 (suc n) (W + 6)) s.same
-    (subst (λ (x : ℕ). Run (left image) 14 0 0 (suc n) (W + x)) s.lines
-    (subst (λ (x : ℕ). Run (left image) 14 0 0 x (W + taken (made image 14) 41)) e
-    (cut r (put 15 100) list (omega arith, omega arith) s.accepted 41 arrivals s.steps s.permitted)))
-
-once : Run (left (after 14)) 14 0 0 1 23
-unfolding computing
-once = cut full (put 15 100) list (omega arith, omega arith) refl 41 arrivals (omega arith) refl
-
-stays : Stays (left (after 14))
-unfolding computing
-stays = record { accepted = refl; steps = omega arith; permitted = refl; lines = refl; same = refl }
-
-pub often : (n : ℕ) → Run (left (after 14)) 14 0 0 (suc n) (17 + 6 * suc n)
-often zero = once
-often (suc n) =
-    let e : 17 + 6 * suc n + 6 ≡ 17 + 6 * suc (suc n) = omega arith in
-    subst (λ (x : ℕ). Run (left (after 14)) 14 0 0 (suc (suc n)) x) e
-    (again (left (after 14)) stays (suc n) (17 + 6 * suc n) (often n))
-
-pub slack : (n : ℕ) → 7 * (17 + 6 * suc n) + 161 ≡ 20 * 14 + 7 * (0 + 0) + 42 * suc n
-slack n = omega arith

@@ -2,4 +2,3 @@
 pub mod Passed
 pub mod Place
 pub mod Notes
-pub mod Verdict

@@ -1,7 +1,5 @@
 -- To believe: Writing (what put, set and del answer and make). Proved of it: the others.
 pub mod Writing
-pub mod BlockLaws
 pub mod ChangeLaws
 pub mod PutLaws
 pub mod PutCounts
-pub mod FullLaws

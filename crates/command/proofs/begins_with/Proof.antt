@@ -4,7 +4,7 @@ use Prim.Native.Nat.{◌-◌, ◌≤◌}
 use native.Mathlib.Omega.{arith}
 use lib.ListN.{length, drop}
 use Rattle.command.specs.Reading.{begins}
-use Rattle.command.specs.ReadingLaws.{begins_same, begins_other, begins_end, begins_short}
+use Rattle.command.proofs.ReadingLaws.{begins_same, begins_other, begins_end, begins_short}
 use Rattle.command.proofs.begins_with.Statement.{statement}
 use Rattle.command.proofs.begins_with.Tie as tie
 

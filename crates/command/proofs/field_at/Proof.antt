@@ -3,7 +3,7 @@ use mathlib.Core.Path.{sym, ap, ◌∙◌}
 use native.Mathlib.Omega.{arith}
 use borrow.Author.Rules.{rules}
 use Rattle.command.specs.Reading.{field_of}
-use Rattle.command.specs.ReadingLaws.{until_within, field_none, field_to}
+use Rattle.command.proofs.ReadingLaws.{until_within, field_none, field_to}
 use Rattle.number.specs.declared.Number.{Number}
 use Rattle.command.proofs.field_at.Statement.{statement}
 use Rattle.command.proofs.field_at.Tie as tie

@@ -6,7 +6,7 @@ use borrow.Author.Rules.{rules}
 use borrow.Author.Tests.{lt-ltb, le-ltb}
 use lib.ListN.{take, drop}
 use Rattle.command.specs.Reading.{until, parse_of, past_line, line_at}
-use Rattle.command.specs.ReadingLaws.{until_within}
+use Rattle.command.proofs.ReadingLaws.{until_within}
 use Rattle.command.specs.declared.Next.TheVariants.{Line}
 use Rattle.command.proofs.line_at.Statement.{statement}
 use Rattle.command.proofs.line_at.Tie as tie

@@ -4,7 +4,7 @@ use Prim.Native.Nat.{◌+◌, ◌-◌}
 use native.Mathlib.Omega.{arith}
 use lib.ListN.{length, drop}
 use Rattle.command.specs.Reading.{until}
-use Rattle.command.specs.ReadingLaws.{until_hit, until_miss, until_end}
+use Rattle.command.proofs.ReadingLaws.{until_hit, until_miss, until_end}
 use Rattle.command.proofs.next_place.Statement.{statement}
 use Rattle.command.proofs.next_place.Tie as tie
 

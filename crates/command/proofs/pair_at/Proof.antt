@@ -3,7 +3,7 @@ use mathlib.Core.Path.{sym, ap, ◌∙◌}
 use native.Mathlib.Omega.{arith}
 use borrow.Author.Rules.{rules}
 use Rattle.command.specs.Reading.{pair_of, pair_from}
-use Rattle.command.specs.ReadingLaws.{field_within}
+use Rattle.command.proofs.ReadingLaws.{field_within}
 use Rattle.command.proofs.pair_at.Statement.{statement}
 use Rattle.command.proofs.pair_at.Tie as tie
 

@@ -6,7 +6,7 @@ use mathlib.Core.Path.{◌≡◌, refl, sym, ◌∙◌}
 use lib.Bits.{bit_xor}
 use Rattle.words.specs.Words.{word_at}
 use Rattle.header.specs.Header.{xor_of_bytes, fingerprint_of}
-use Rattle.header.specs.HeaderCode.{mix_start, mix_byte, mix_end}
+use Rattle.header.proofs.HeaderCode.{mix_start, mix_byte, mix_end}
 use Rattle.header.proofs.fingerprint_at.Statement.{statement}
 use Rattle.header.proofs.fingerprint_at.Tie as tie
 

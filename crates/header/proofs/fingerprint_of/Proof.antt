@@ -5,7 +5,7 @@ use Prim.Native.Nat.{◌-◌, ◌≤◌}
 use mathlib.Core.Path.{◌≡◌, sym, ◌∙◌}
 use lib.Bits.{bit_xor}
 use Rattle.header.specs.Header.{xor_of_bytes, fingerprint_of}
-use Rattle.header.specs.HeaderCode.{mix_start, mix_step, mix_end}
+use Rattle.header.proofs.HeaderCode.{mix_start, mix_step, mix_end}
 use Rattle.header.proofs.fingerprint_of.Statement.{statement}
 use Rattle.header.proofs.fingerprint_of.Tie as tie
 

@@ -2,7 +2,7 @@
 use borrow.Author.Rules.{rules}
 use mathlib.Core.Path.{refl, sym, ◌∙◌}
 use lib.ListN.{length}
-use Rattle.machine.specs.Fits.{passed, all_fit, can_be_taken}
+use Rattle.machine.proofs.Fits.{passed, all_fit, can_be_taken}
 use Rattle.machine.proofs.cut.Statement.{statement}
 use Rattle.machine.proofs.cut.Tie as tie
 

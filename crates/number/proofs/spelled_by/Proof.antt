@@ -5,7 +5,7 @@ use native.Mathlib.Omega.{arith}
 use borrow.Author.Rules.{rules}
 use lib.ListN.{length, drop}
 use Rattle.number.specs.Reading.{pushed_all, spelled_by}
-use Rattle.number.specs.ReadingLaws.{pushed_next, pushed_end, number_first, number_none}
+use Rattle.number.proofs.ReadingLaws.{pushed_next, pushed_end, number_first, number_none}
 use Rattle.number.specs.declared.Number.{Number}
 use Rattle.number.proofs.spelled_by.Statement.{statement}
 use Rattle.number.proofs.spelled_by.Tie as tie

@@ -1,6 +1,6 @@
 use native.Mathlib.Omega.{arith}
 use mathlib.Core.Path.{refl}
-use Rattle.header.specs.HeaderLaws.{whole_low}
+use Rattle.header.proofs.HeaderLaws.{whole_low}
 use Rattle.emit.proofs.head.word0.Statement.{statement}
 use Rattle.emit.proofs.head.word0.Tie as tie
 

@@ -4,7 +4,7 @@ use native.Mathlib.Omega.{arith}
 use Prim.Native.Nat.{ℕ}
 use Rattle.header.specs.Header.{bits_of}
 use Rattle.leaf.specs.Leaf.{leaf_in, occ_in}
-use Rattle.leaf.specs.LeafLaws.{occ_in_lem}
+use Rattle.leaf.proofs.LeafLaws.{occ_in_lem}
 use Rattle.lists.specs.Lists.{entry_steps}
 use Rattle.emit.specs.Appended.{appended}
 use Rattle.emit.specs.CopyLaws.{turn_taken, turn_vacant}

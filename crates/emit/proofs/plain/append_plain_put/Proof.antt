@@ -3,7 +3,7 @@ use native.Mathlib.Omega.{arith}
 use mathlib.Core.Path.{refl, sym, ◌∙◌}
 use Rattle.header.specs.Header.{bits_of}
 use Rattle.leaf.specs.Leaf.{leaf_in, occ_in}
-use Rattle.leaf.specs.SearchLaws.{vacant_at}
+use Rattle.leaf.proofs.SearchLaws.{vacant_at}
 use Rattle.leaf.specs.declared.search.Slot.TheVariants.{At, Missing}
 use Rattle.lists.specs.Lists.{put_found, plain_put}
 use Rattle.emit.specs.Appended.{appended, wrote_as}

@@ -4,7 +4,7 @@ use Prim.Native.Nat.{ℕ, ◌+◌, ◌-◌, ◌≤◌, ◌<◌}
 use mathlib.Core.Path.{◌≡◌, sym, ap, ◌∙◌}
 use Rattle.header.specs.Header.{bits_of, marked}
 use Rattle.leaf.specs.Leaf.{leaf_in}
-use Rattle.leaf.specs.LeafLaws.{occ_in_lem}
+use Rattle.leaf.proofs.LeafLaws.{occ_in_lem}
 use Rattle.lists.specs.Lists.{last_beside}
 use Rattle.emit.specs.CopyLaws.{FilledTo, filled_start, filled_taken, filled_vacant, filled_end}
 use Rattle.emit.proofs.plain.filled_head.Statement.{statement}

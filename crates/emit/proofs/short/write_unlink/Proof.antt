@@ -3,7 +3,7 @@ use native.Mathlib.Omega.{arith}
 use mathlib.Core.Path.{sym, ap, ap₂, ◌∙◌}
 use Prim.Native.Nat.{ℕ, ◌+◌, ◌*◌}
 use Rattle.header.specs.Header.{alt_in, bits_of}
-use Rattle.header.specs.HeaderLaws.{alt_lt}
+use Rattle.header.proofs.HeaderLaws.{alt_lt}
 use Rattle.steps.specs.Shapes.{one_store}
 use Rattle.steps.specs.Encoding.{written}
 use Rattle.lists.specs.Lists.{unlink_list, sib_place}

@@ -1,6 +1,6 @@
 use borrow.Author.Rules.{rules}
 use native.Mathlib.Omega.{arith}
-use Rattle.header.specs.HeaderCode.{alt_low}
+use Rattle.header.proofs.HeaderCode.{alt_low}
 use Rattle.header.proofs.Header.alt.Statement.{statement}
 use Rattle.header.proofs.Header.alt.Tie as tie
 

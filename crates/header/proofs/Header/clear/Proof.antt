@@ -1,6 +1,6 @@
 use borrow.Author.Rules.{rules}
 use native.Mathlib.Omega.{arith}
-use Rattle.header.specs.HeaderCode.{cleared_low}
+use Rattle.header.proofs.HeaderCode.{cleared_low}
 use Rattle.header.proofs.Header.clear.Statement.{statement}
 use Rattle.header.proofs.Header.clear.Tie as tie
 

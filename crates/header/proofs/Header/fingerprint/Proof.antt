@@ -1,6 +1,6 @@
 use borrow.Author.Rules.{rules}
 use native.Mathlib.Omega.{arith}
-use Rattle.header.specs.HeaderCode.{fingerprint_low, fingerprint_high}
+use Rattle.header.proofs.HeaderCode.{fingerprint_low, fingerprint_high}
 use Rattle.header.proofs.Header.fingerprint.Statement.{statement}
 use Rattle.header.proofs.Header.fingerprint.Tie as tie
 

@@ -1,6 +1,6 @@
 use borrow.Author.Rules.{rules}
 use native.Mathlib.Omega.{arith}
-use Rattle.header.specs.HeaderCode.{first_taken, none_taken}
+use Rattle.header.proofs.HeaderCode.{first_taken, none_taken}
 use Rattle.header.proofs.Header.first_taken.Statement.{statement}
 use Rattle.header.proofs.Header.first_taken.Tie as tie
 

@@ -1,7 +1,7 @@
 use borrow.Author.Rules.{rules}
 use native.Mathlib.Omega.{arith}
-use Rattle.header.specs.FieldLaws.{field_lt}
-use Rattle.header.specs.HeaderCode.{flipped_low}
+use Rattle.header.proofs.FieldLaws.{field_lt}
+use Rattle.header.proofs.HeaderCode.{flipped_low}
 use Rattle.header.proofs.Header.flip_alt.Statement.{statement}
 use Rattle.header.proofs.Header.flip_alt.Tie as tie
 

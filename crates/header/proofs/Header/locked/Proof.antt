@@ -1,6 +1,6 @@
 use borrow.Author.Rules.{rules}
 use native.Mathlib.Omega.{arith}
-use Rattle.header.specs.HeaderCode.{locked_low}
+use Rattle.header.proofs.HeaderCode.{locked_low}
 use Rattle.header.proofs.Header.locked.Statement.{statement}
 use Rattle.header.proofs.Header.locked.Tie as tie
 

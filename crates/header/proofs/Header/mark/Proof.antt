@@ -1,6 +1,6 @@
 use borrow.Author.Rules.{rules}
 use native.Mathlib.Omega.{arith}
-use Rattle.header.specs.HeaderCode.{marked_low, marked_high}
+use Rattle.header.proofs.HeaderCode.{marked_low, marked_high}
 use Rattle.header.proofs.Header.mark.Statement.{statement}
 use Rattle.header.proofs.Header.mark.Tie as tie
 

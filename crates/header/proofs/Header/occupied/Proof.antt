@@ -1,6 +1,6 @@
 use borrow.Author.Rules.{rules}
 use native.Mathlib.Omega.{arith}
-use Rattle.header.specs.HeaderCode.{occupied_low}
+use Rattle.header.proofs.HeaderCode.{occupied_low}
 use Rattle.header.proofs.Header.occupied.Statement.{statement}
 use Rattle.header.proofs.Header.occupied.Tie as tie
 

@@ -3,7 +3,7 @@ use borrow.Author.Rules.{rules}
 use native.Mathlib.Omega.{arith}
 use lib.Pow.{pow_pos}
 use Rattle.header.specs.Fields.{field}
-use Rattle.header.specs.FieldLaws.{one_shl}
+use Rattle.header.proofs.FieldLaws.{one_shl}
 use Rattle.header.proofs.bits.get.Statement.{statement}
 use Rattle.header.proofs.bits.get.Tie as tie
 

@@ -1,5 +1,5 @@
 use native.Mathlib.Omega.{arith}
-use Rattle.header.specs.Lowest.{lowest_one}
+use Rattle.header.proofs.Lowest.{lowest_one}
 use Rattle.header.proofs.bits.lowest_one.Statement.{statement}
 use Rattle.header.proofs.bits.lowest_one.Tie as tie
 

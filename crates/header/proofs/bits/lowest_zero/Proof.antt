@@ -1,6 +1,6 @@
 use borrow.Author.Rules.{rules}
 use native.Mathlib.Omega.{arith}
-use Rattle.header.specs.Lowest.{lowest_zero}
+use Rattle.header.proofs.Lowest.{lowest_zero}
 use Rattle.header.proofs.bits.lowest_zero.Statement.{statement}
 use Rattle.header.proofs.bits.lowest_zero.Tie as tie
 

@@ -1,7 +1,7 @@
 -- Neither shift loses a bit.
 use borrow.Author.Rules.{rules}
 use native.Mathlib.Omega.{arith}
-use Rattle.header.specs.FieldLaws.{shl_le, shl_patched, shl_fits}
+use Rattle.header.proofs.FieldLaws.{shl_le, shl_patched, shl_fits}
 use Rattle.header.proofs.bits.replace.Statement.{statement}
 use Rattle.header.proofs.bits.replace.Tie as tie
 

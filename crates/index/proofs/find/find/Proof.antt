@@ -6,8 +6,9 @@ use Rattle.leaf.specs.Search.{slot_of}
 use Rattle.survey.specs.Walk.{State}
 use Rattle.image.specs.Image.{leaves}
 use Rattle.index.specs.Reading.{found_as}
-use Rattle.index.specs.SoundTest.{long_enough, noted_bounds, block_inside}
-use Rattle.index.specs.FindLaws.{found_at, find_bad, find_unsound, find_slot}
+use Rattle.index.proofs.SoundTest.{long_enough, noted_bounds, block_inside}
+use Rattle.index.specs.FindLaws.{found_at}
+use Rattle.index.proofs.FindLaws.{find_bad, find_unsound, find_slot}
 use Rattle.index.proofs.find.find.Statement.{statement}
 use Rattle.index.proofs.find.find.Tie as tie
 

@@ -2,7 +2,7 @@ use borrow.Author.Rules.{rules}
 use mathlib.Core.Path.{refl, ap, ◌∙◌}
 use Prim.Native.Nat.{◌+◌, ◌*◌}
 use Rattle.leaf.specs.Leaf.{Leaf}
-use Rattle.leaf.specs.LeafLaws.{part_leaf}
+use Rattle.leaf.proofs.LeafLaws.{part_leaf}
 use Rattle.leaf.specs.Search.{slot_of}
 use Rattle.index.specs.FindLaws.{found_at}
 use Rattle.index.proofs.find.find_in.Statement.{statement}

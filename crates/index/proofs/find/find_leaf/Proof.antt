@@ -3,7 +3,7 @@ use native.Mathlib.Omega.{arith}
 use mathlib.Core.Path.{sym, ap, ◌∙◌}
 use Prim.Native.Nat.{ℕ}
 use Rattle.leaf.specs.Leaf.{leaf_in}
-use Rattle.leaf.specs.SearchLaws.{slot_at}
+use Rattle.leaf.proofs.SearchLaws.{slot_at}
 use Rattle.index.specs.declared.find.Found.TheVariants.{Value}
 use Rattle.index.specs.FindLaws.{found_at}
 use Rattle.index.proofs.find.find_leaf.Statement.{statement}

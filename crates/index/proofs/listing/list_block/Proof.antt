@@ -4,7 +4,7 @@ use mathlib.Core.Path.{refl, sym, ap, subst, ◌∙◌}
 use Prim.Native.Nat.{◌+◌, ◌-◌, ◌*◌}
 use lib.ListN.{drop, length-take, length-drop}
 use Rattle.leaf.specs.Leaf.{Leaf, Right}
-use Rattle.leaf.specs.LeafLaws.{part_leaf}
+use Rattle.leaf.proofs.LeafLaws.{part_leaf}
 use Rattle.index.specs.Filling.{buffers, fill}
 use Rattle.index.specs.ListingLaws.{entries_from}
 use Rattle.index.proofs.listing.list_block.Statement.{statement}

@@ -10,8 +10,9 @@ use Rattle.image.specs.Chain.{All}
 use Rattle.image.specs.Image.{blocks, leaves}
 use Rattle.index.specs.Reading.{chain_from}
 use Rattle.index.specs.Filling.{buffers, fill}
-use Rattle.index.specs.Along.{chain_whole, Ahead, ahead_here, ahead_next}
-use Rattle.index.specs.ListingLaws.{list_from, chain_done, chain_next, chain_ends, chain_full}
+use Rattle.index.proofs.Along.{chain_whole, Ahead, ahead_here, ahead_next}
+use Rattle.index.specs.ListingLaws.{list_from}
+use Rattle.index.proofs.ListingLaws.{chain_done, chain_next, chain_ends, chain_full}
 use Rattle.index.proofs.listing.list_chain.Statement.{statement}
 use Rattle.index.proofs.listing.list_chain.Tie as tie
 

@@ -5,7 +5,7 @@ use mathlib.Core.List.{List}
 use Rattle.image.specs.Map.{Entry}
 use Rattle.order.specs.Insertion.{slots_below}
 use Rattle.index.specs.Filling.{buffers, fill}
-use Rattle.index.specs.ListingLaws.{order_lists}
+use Rattle.index.proofs.ListingLaws.{order_lists}
 use Rattle.index.proofs.listing.list_leaf.Statement.{statement}
 use Rattle.index.proofs.listing.list_leaf.Tie as tie
 

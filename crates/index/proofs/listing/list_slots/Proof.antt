@@ -8,7 +8,7 @@ use lib.Seq.{get_or-take}
 use Rattle.leaf.specs.Leaf.{leaf_in}
 use Rattle.image.specs.Entries.{entries_at}
 use Rattle.index.specs.Filling.{buffers, fill}
-use Rattle.index.specs.ListingLaws.{slots_end, slots_full, slots_next, first_length}
+use Rattle.index.proofs.ListingLaws.{slots_end, slots_full, slots_next, first_length}
 use Rattle.index.proofs.listing.list_slots.Statement.{statement}
 use Rattle.index.proofs.listing.list_slots.Tie as tie
 

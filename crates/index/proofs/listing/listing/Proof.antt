@@ -7,8 +7,8 @@ use Rattle.image.specs.Chain.{All}
 use Rattle.image.specs.Image.{blocks, leaves}
 use Rattle.survey.specs.Walk.{State}
 use Rattle.index.specs.Reading.{chain_from}
-use Rattle.index.specs.SoundTest.{long_enough}
-use Rattle.index.specs.ListingLaws.{target_near, listing_bad, listing_unsound, listing_done}
+use Rattle.index.proofs.SoundTest.{long_enough}
+use Rattle.index.proofs.ListingLaws.{target_near, listing_bad, listing_unsound, listing_done}
 use Rattle.index.proofs.listing.listing.Statement.{statement}
 use Rattle.index.proofs.listing.listing.Tie as tie
 

@@ -2,7 +2,8 @@
 use native.Mathlib.Omega.{arith}
 use Prim.Native.Nat.{◌-◌, ◌≤◌}
 use mathlib.Core.Path.{◌≡◌, refl}
-use Rattle.index.specs.RecoveryLaws.{Copied, copied_none, copied_next}
+use Rattle.index.specs.RecoveryLaws.{Copied}
+use Rattle.index.proofs.RecoveryLaws.{copied_none, copied_next}
 use Rattle.index.proofs.recovery.copy_notes.Statement.{statement}
 use Rattle.index.proofs.recovery.copy_notes.Tie as tie
 

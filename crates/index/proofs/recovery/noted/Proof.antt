@@ -4,8 +4,8 @@ use mathlib.Core.Path.{refl, sym, ap, ◌∙◌}
 use lib.ListN.{length}
 use Rattle.image.specs.Image.{blocks}
 use Rattle.survey.specs.Walk.{State}
-use Rattle.index.specs.SoundTest.{long_enough}
-use Rattle.index.specs.RecoveryLaws.{leaves_few, not_short, recovery_unsound, recovery_done}
+use Rattle.index.proofs.SoundTest.{long_enough}
+use Rattle.index.proofs.RecoveryLaws.{leaves_few, not_short, recovery_unsound, recovery_done}
 use Rattle.index.proofs.recovery.noted.Statement.{statement}
 use Rattle.index.proofs.recovery.noted.Tie as tie
 

@@ -1,6 +1,6 @@
 use borrow.Author.Rules.{rules}
 use mathlib.Core.Path.{sym, ◌∙◌}
-use Rattle.index.specs.RecoveryLaws.{recovery_bad, recovery_short}
+use Rattle.index.proofs.RecoveryLaws.{recovery_bad, recovery_short}
 use Rattle.index.proofs.recovery.recovery.Statement.{statement}
 use Rattle.index.proofs.recovery.recovery.Tie as tie
 

@@ -8,7 +8,7 @@ use Rattle.words.specs.Below.{count_below}
 use Rattle.words.specs.BelowLaws.{count_next}
 use Rattle.header.specs.Header.{bits_of}
 use Rattle.leaf.specs.Leaf.{occ_in}
-use Rattle.leaf.specs.LeafLaws.{occ_in_lem}
+use Rattle.leaf.proofs.LeafLaws.{occ_in_lem}
 use Rattle.leaf.proofs.search.entries.Statement.{statement}
 use Rattle.leaf.proofs.search.entries.Tie as tie
 use Rattle.leaf.proofs.search.entries.Lts.{then-occupied, else-occupied}

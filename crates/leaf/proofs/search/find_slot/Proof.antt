@@ -5,7 +5,7 @@ use Prim.Native.Nat.{◌-◌, ◌≤◌}
 use mathlib.Core.Path.{◌≡◌, sym, ◌∙◌}
 use Rattle.leaf.specs.Leaf.{leaf_in}
 use Rattle.leaf.specs.Search.{lowest, holds_key, slot_of}
-use Rattle.leaf.specs.SearchSteps.{slot_whole, lowest_found, lowest_passed, lowest_end}
+use Rattle.leaf.proofs.SearchSteps.{slot_whole, lowest_found, lowest_passed, lowest_end}
 use Rattle.leaf.proofs.search.find_slot.Statement.{statement}
 use Rattle.leaf.proofs.search.find_slot.Tie as tie
 

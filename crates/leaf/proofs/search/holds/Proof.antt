@@ -1,7 +1,7 @@
 use borrow.Author.Rules.{rules}
 use native.Mathlib.Omega.{arith}
 use mathlib.Core.Path.{sym, ◌∙◌}
-use Rattle.leaf.specs.SearchSteps.{in_occ, in_fp, holds_key_lem, holds_vacant, holds_other}
+use Rattle.leaf.proofs.SearchSteps.{in_occ, in_fp, holds_key_lem, holds_vacant, holds_other}
 use Rattle.leaf.proofs.search.holds.Statement.{statement}
 use Rattle.leaf.proofs.search.holds.Tie as tie
 

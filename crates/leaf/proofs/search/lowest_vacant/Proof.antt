@@ -6,9 +6,9 @@ use mathlib.Core.Path.{◌≡◌, refl, sym, ap, ◌∙◌}
 use mathlib.Core.Bool.{not}
 use Rattle.header.specs.Header.{bits_of}
 use Rattle.leaf.specs.Leaf.{occ_in}
-use Rattle.leaf.specs.LeafLaws.{occ_in_lem}
+use Rattle.leaf.proofs.LeafLaws.{occ_in_lem}
 use Rattle.leaf.specs.Search.{lowest, lowest_vacant}
-use Rattle.leaf.specs.SearchSteps.{lowest_found, lowest_passed, lowest_end}
+use Rattle.leaf.proofs.SearchSteps.{lowest_found, lowest_passed, lowest_end}
 use Rattle.leaf.proofs.search.lowest_vacant.Statement.{statement}
 use Rattle.leaf.proofs.search.lowest_vacant.Tie as tie
 

@@ -2,8 +2,8 @@ use borrow.Author.Rules.{rules}
 use native.Mathlib.Omega.{arith}
 use mathlib.Core.Path.{sym, ◌∙◌}
 use Rattle.header.specs.Header.{bits_of}
-use Rattle.header.specs.HeaderLaws.{alt_lt}
-use Rattle.leaf.specs.SearchSteps.{in_next}
+use Rattle.header.proofs.HeaderLaws.{alt_lt}
+use Rattle.leaf.proofs.SearchSteps.{in_next}
 use Rattle.leaf.proofs.search.next_of.Statement.{statement}
 use Rattle.leaf.proofs.search.next_of.Tie as tie
 

@@ -1,7 +1,7 @@
 use borrow.Author.Rules.{rules}
 use mathlib.Core.Path.{ap, ◌∙◌}
 use Rattle.words.specs.Words.{word_at}
-use Rattle.leaf.specs.SearchSteps.{in_val}
+use Rattle.leaf.proofs.SearchSteps.{in_val}
 use Rattle.leaf.proofs.search.value_at.Statement.{statement}
 use Rattle.leaf.proofs.search.value_at.Tie as tie
 

@@ -3,7 +3,7 @@ use native.Mathlib.Omega.{arith}
 use Prim.Native.Nat.{ℕ, suc, ◌-◌, ◌≤◌, ◌<◌}
 use mathlib.Core.Path.{◌≡◌, sym, subst, ◌∙◌}
 use Rattle.leaf.specs.Leaf.{leaf_in}
-use Rattle.leaf.specs.TallySteps.{Left, left_whole, left_next, left_some, left_none, twins_found}
+use Rattle.leaf.proofs.TallySteps.{Left, left_whole, left_next, left_some, left_none, twins_found}
 use Rattle.leaf.proofs.tally.has_twins.Statement.{statement}
 use Rattle.leaf.proofs.tally.has_twins.Tie as tie
 

@@ -7,9 +7,9 @@ use mathlib.Core.Bool.{false}
 use Rattle.words.specs.Below.{any_below}
 use Rattle.words.specs.BelowLaws.{any_next}
 use Rattle.leaf.specs.Leaf.{leaf_in}
-use Rattle.leaf.specs.SearchSteps.{in_occ}
+use Rattle.leaf.proofs.SearchSteps.{in_occ}
 use Rattle.leaf.specs.Tally.{shares}
-use Rattle.leaf.specs.TallySteps.{twin_found, twin_none, twin_vacant}
+use Rattle.leaf.proofs.TallySteps.{twin_found, twin_none, twin_vacant}
 use Rattle.leaf.proofs.tally.is_twin.Statement.{statement}
 use Rattle.leaf.proofs.tally.is_twin.Tie as tie
 

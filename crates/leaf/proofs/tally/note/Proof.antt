@@ -1,5 +1,5 @@
 use borrow.Author.Rules.{rules}
-use Rattle.leaf.specs.TallySteps.{noted_is}
+use Rattle.leaf.proofs.TallySteps.{noted_is}
 use Rattle.leaf.proofs.tally.note.Statement.{statement}
 use Rattle.leaf.proofs.tally.note.Tie as tie
 

@@ -2,7 +2,7 @@ use borrow.Author.Rules.{rules}
 use mathlib.Core.Path.{ap, ◌∙◌}
 use Rattle.words.specs.Words.{word_at}
 use Rattle.header.specs.Header.{fingerprint_of}
-use Rattle.leaf.specs.SearchSteps.{in_key}
+use Rattle.leaf.proofs.SearchSteps.{in_key}
 use Rattle.leaf.proofs.tally.own_print.Statement.{statement}
 use Rattle.leaf.proofs.tally.own_print.Tie as tie
 

@@ -3,8 +3,8 @@ use native.Mathlib.Omega.{arith}
 use native.Mathlib.Nat.{zero-add}
 use mathlib.Core.Path.{refl, sym, ◌∙◌}
 use Rattle.header.specs.Header.{head_at}
-use Rattle.header.specs.HeaderLaws.{fingerprint_byte}
-use Rattle.leaf.specs.SearchSteps.{in_fp}
+use Rattle.header.proofs.HeaderLaws.{fingerprint_byte}
+use Rattle.leaf.proofs.SearchSteps.{in_fp}
 use Rattle.leaf.proofs.tally.print_at.Statement.{statement}
 use Rattle.leaf.proofs.tally.print_at.Tie as tie
 

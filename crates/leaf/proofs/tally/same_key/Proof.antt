@@ -1,8 +1,8 @@
 use borrow.Author.Rules.{rules}
 use native.Mathlib.Omega.{arith}
 use mathlib.Core.Path.{sym, ◌∙◌}
-use Rattle.leaf.specs.SearchSteps.{in_occ}
-use Rattle.leaf.specs.TallySteps.{shares_key, shares_other, shares_vacant}
+use Rattle.leaf.proofs.SearchSteps.{in_occ}
+use Rattle.leaf.proofs.TallySteps.{shares_key, shares_other, shares_vacant}
 use Rattle.leaf.proofs.tally.same_key.Statement.{statement}
 use Rattle.leaf.proofs.tally.same_key.Tie as tie
 

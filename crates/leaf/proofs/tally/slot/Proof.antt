@@ -4,8 +4,8 @@ use mathlib.Core.Path.{refl, sym, ap, ◌∙◌}
 use lib.ListN.{length, length-set}
 use Rattle.header.specs.Header.{fingerprint_of}
 use Rattle.leaf.specs.Leaf.{leaf_in}
-use Rattle.leaf.specs.SearchSteps.{in_occ}
-use Rattle.leaf.specs.TallySteps.{tells_few, tells_taken, tells_vacant, stamped_taken, stamped_vacant}
+use Rattle.leaf.proofs.SearchSteps.{in_occ}
+use Rattle.leaf.proofs.TallySteps.{tells_few, tells_taken, tells_vacant, stamped_taken, stamped_vacant}
 use Rattle.leaf.proofs.tally.slot.Statement.{statement}
 use Rattle.leaf.proofs.tally.slot.Tie as tie
 

@@ -4,7 +4,8 @@ use Prim.Native.Nat.{◌-◌, ◌≤◌}
 use mathlib.Core.Path.{◌≡◌, refl, ◌∙◌}
 use lib.ListN.{length}
 use Rattle.leaf.specs.Leaf.{leaf_in}
-use Rattle.leaf.specs.TallySteps.{TellsTo, Stamped, tells_none, tells_whole}
+use Rattle.leaf.specs.TallySteps.{TellsTo, Stamped}
+use Rattle.leaf.proofs.TallySteps.{tells_none, tells_whole}
 use Rattle.leaf.proofs.tally.tally_of.Statement.{statement}
 use Rattle.leaf.proofs.tally.tally_of.Tie as tie
 

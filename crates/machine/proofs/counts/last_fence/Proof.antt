@@ -4,7 +4,7 @@ use mathlib.Core.Path.{◌≡◌}
 use native.Mathlib.Omega.{arith}
 use Rattle.steps.specs.LastFence.{last_fence}
 use Rattle.steps.specs.Encoding.{step_at}
-use Rattle.machine.specs.Turns.{fence_next}
+use Rattle.machine.proofs.Turns.{fence_next}
 use Rattle.machine.proofs.counts.last_fence.Statement.{statement}
 use Rattle.machine.proofs.counts.last_fence.Tie as tie
 

@@ -4,7 +4,8 @@ use mathlib.Core.Path.{◌≡◌, refl, sym, ap, ◌∙◌, subst}
 use native.Mathlib.Omega.{arith}
 use lib.ListN.{length}
 use Rattle.steps.specs.Encoding.{step_at}
-use Rattle.machine.specs.Tables.{Backs, backs_none, backs_next, marked_length}
+use Rattle.machine.specs.Tables.{Backs}
+use Rattle.machine.proofs.Tables.{backs_none, backs_next, marked_length}
 use Rattle.machine.proofs.counts.mark_backs.Statement.{statement}
 use Rattle.machine.proofs.counts.mark_backs.Tie as tie
 

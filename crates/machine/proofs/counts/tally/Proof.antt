@@ -4,7 +4,8 @@ use mathlib.Core.Path.{◌≡◌, refl, sym, ap, ◌∙◌, subst}
 use native.Mathlib.Omega.{arith}
 use lib.ListN.{length}
 use Rattle.steps.specs.Encoding.{step_at}
-use Rattle.machine.specs.Tables.{Tally, tally_none, tally_most, tally_next, counted_length}
+use Rattle.machine.specs.Tables.{Tally}
+use Rattle.machine.proofs.Tables.{tally_none, tally_most, tally_next, counted_length}
 use Rattle.machine.proofs.counts.tally.Statement.{statement}
 use Rattle.machine.proofs.counts.tally.Tie as tie
 

@@ -3,7 +3,7 @@ use borrow.Author.Rules.{rules}
 use borrow.Author.Tests.{eq-eqb, ne_eqb}
 use native.Mathlib.Omega.{arith}
 use mathlib.Core.Path.{sym, ◌∙◌}
-use Rattle.steps.specs.EncodingLaws.{first_small}
+use Rattle.steps.proofs.EncodingLaws.{first_small}
 use Rattle.machine.proofs.list.well_formed.Statement.{statement}
 use Rattle.machine.proofs.list.well_formed.Tie as tie
 

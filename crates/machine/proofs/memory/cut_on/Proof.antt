@@ -8,9 +8,10 @@ use Rattle.words.specs.Words.{store_word}
 use Rattle.steps.specs.Model.{line, cut}
 use Rattle.steps.specs.Encoding.{step_at}
 use Rattle.machine.specs.Taking.{arrived}
-use Rattle.machine.specs.Tables.{Tally, tally_none, tally_most, tally_next, counted_length}
-use Rattle.machine.specs.Lost.{arrives_by}
-use Rattle.machine.specs.Turns.{cut_next, cut_length}
+use Rattle.machine.specs.Tables.{Tally}
+use Rattle.machine.proofs.Tables.{tally_none, tally_most, tally_next, counted_length}
+use Rattle.machine.proofs.Lost.{arrives_by}
+use Rattle.machine.proofs.Turns.{cut_next, cut_length}
 use Rattle.machine.proofs.memory.cut_on.Statement.{statement}
 use Rattle.machine.proofs.memory.cut_on.Tie as tie
 

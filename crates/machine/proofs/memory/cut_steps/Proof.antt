@@ -1,6 +1,6 @@
 -- `machine::memory::cut_steps` meets its contract: the table is fresh.
 use borrow.Author.Rules.{rules}
-use Rattle.machine.specs.Tables.{zeros}
+use Rattle.machine.proofs.Tables.{zeros}
 use Rattle.machine.proofs.memory.cut_steps.Statement.{statement}
 use Rattle.machine.proofs.memory.cut_steps.Tie as tie
 

@@ -6,7 +6,7 @@ use lib.ListN.{length}
 use Rattle.words.specs.Words.{store_word}
 use Rattle.steps.specs.Model.{run}
 use Rattle.steps.specs.Encoding.{step_at}
-use Rattle.machine.specs.Turns.{run_next, run_length}
+use Rattle.machine.proofs.Turns.{run_next, run_length}
 use Rattle.machine.proofs.memory.run_steps.Statement.{statement}
 use Rattle.machine.proofs.memory.run_steps.Tie as tie
 

@@ -7,8 +7,10 @@ use lib.ListN.{length}
 use Rattle.words.specs.Below.{any_below}
 use Rattle.words.specs.BelowLaws.{any_make, any_next}
 use Rattle.steps.specs.Encoding.{step_at}
-use Rattle.machine.specs.Tables.{Tally, tally_none, tally_most, tally_next, counted_length}
-use Rattle.machine.specs.Lost.{lost_at, lost_by_lem}
+use Rattle.machine.specs.Tables.{Tally}
+use Rattle.machine.proofs.Tables.{tally_none, tally_most, tally_next, counted_length}
+use Rattle.machine.specs.Lost.{lost_at}
+use Rattle.machine.proofs.Lost.{lost_by_lem}
 use Rattle.machine.proofs.refusals.any_lost.Statement.{statement}
 use Rattle.machine.proofs.refusals.any_lost.Tie as tie
 

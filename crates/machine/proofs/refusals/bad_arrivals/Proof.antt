@@ -1,8 +1,8 @@
 -- `machine::refusals::bad_arrivals` meets its contract: the two searches find what `bad_arrivals` asks for.
 use mathlib.Core.Path.{sym, ◌∙◌}
 use native.Mathlib.Omega.{arith}
-use Rattle.machine.specs.Fits.{can_be_taken}
-use Rattle.machine.specs.Lost.{arrivals_short, arrivals_judged}
+use Rattle.machine.proofs.Fits.{can_be_taken}
+use Rattle.machine.proofs.Lost.{arrivals_short, arrivals_judged}
 use Rattle.machine.proofs.refusals.bad_arrivals.Statement.{statement}
 use Rattle.machine.proofs.refusals.bad_arrivals.Tie as tie
 

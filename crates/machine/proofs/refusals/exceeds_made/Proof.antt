@@ -1,8 +1,8 @@
 -- `machine::refusals::exceeds_made` meets its contract: the table has the stores made.
 use mathlib.Core.Path.{◌∙◌}
 use borrow.Author.Rules.{rules}
-use Rattle.machine.specs.Tables.{zeros}
-use Rattle.machine.specs.Lost.{above_by_lem}
+use Rattle.machine.proofs.Tables.{zeros}
+use Rattle.machine.proofs.Lost.{above_by_lem}
 use Rattle.machine.proofs.refusals.exceeds_made.Statement.{statement}
 use Rattle.machine.proofs.refusals.exceeds_made.Tie as tie
 

@@ -5,9 +5,9 @@ use native.Mathlib.Omega.{arith}
 use borrow.Author.Rules.{rules}
 use Rattle.words.specs.Below.{any_below}
 use Rattle.steps.specs.Encoding.{step_at}
-use Rattle.steps.specs.LastFence.{fence_below}
-use Rattle.machine.specs.Fits.{taken_less}
-use Rattle.machine.specs.Tables.{zeros}
+use Rattle.steps.proofs.LastFence.{fence_below}
+use Rattle.machine.proofs.Fits.{taken_less}
+use Rattle.machine.proofs.Tables.{zeros}
 use Rattle.machine.specs.Lost.{lost_at, lost}
 use Rattle.machine.proofs.refusals.misses_settled.Statement.{statement}
 use Rattle.machine.proofs.refusals.misses_settled.Tie as tie

@@ -5,7 +5,7 @@ use Prim.Native.Nat.{ℕ, ◌+◌, ◌-◌, ◌*◌}
 use lib.ListN.{length}
 use mathlib.Core.List.{List}
 use Rattle.header.specs.Header.{alt_in, bits_of}
-use Rattle.header.specs.HeaderLaws.{alt_lt}
+use Rattle.header.proofs.HeaderLaws.{alt_lt}
 use Rattle.leaf.specs.Leaf.{Leaf, leaf_in}
 use Rattle.lists.specs.Lists.{low_word, sib_place}
 use Rattle.lists.specs.FullLists.{moved_slots, new_words}

@@ -2,7 +2,7 @@ use borrow.Author.Rules.{rules}
 use mathlib.Core.Path.{refl, ap, ◌∙◌}
 use Prim.Native.Nat.{◌+◌, ◌*◌}
 use Rattle.leaf.specs.Leaf.{Leaf}
-use Rattle.leaf.specs.LeafLaws.{part_leaf}
+use Rattle.leaf.proofs.LeafLaws.{part_leaf}
 use Rattle.survey.proofs.along.next_block.Statement.{statement}
 use Rattle.survey.proofs.along.next_block.Tie as tie
 

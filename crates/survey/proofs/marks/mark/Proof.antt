@@ -4,7 +4,7 @@ use mathlib.Core.Path.{ap, ◌∙◌}
 use Prim.Native.Nat.{ℕ, ◌/◌, ◌%◌, ◌<◌}
 use lib.Bits.{bit_or}
 use lib.ListN.{get_or, set}
-use Rattle.header.specs.FieldLaws.{one_shl}
+use Rattle.header.proofs.FieldLaws.{one_shl}
 use Rattle.survey.specs.Marks.{words_in, word_patched, or_patched}
 use Rattle.survey.proofs.marks.mark.Statement.{statement}
 use Rattle.survey.proofs.marks.mark.Tie as tie

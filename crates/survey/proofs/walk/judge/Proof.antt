@@ -8,7 +8,7 @@ use Rattle.words.specs.WordLaws.{Bytes}
 use Rattle.header.specs.Header.{bits_of}
 use Rattle.leaf.specs.Leaf.{leaf_in}
 use Rattle.leaf.specs.Tally.{twins}
-use Rattle.leaf.specs.SearchSteps.{in_lock, key_small}
+use Rattle.leaf.proofs.SearchSteps.{in_lock, key_small}
 use Rattle.survey.specs.Walk.{state_in, moved, reached_by}
 use Rattle.survey.specs.Turns.{fault_near, fault_is, judged_on, judged_stop, few_entries, smallest_told}
 use Rattle.survey.proofs.walk.judge.Statement.{statement}

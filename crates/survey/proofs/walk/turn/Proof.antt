@@ -4,7 +4,7 @@ use Prim.Native.Nat.{◌+◌, ◌*◌}
 use lib.ListN.{set}
 use Rattle.leaf.specs.Leaf.{Leaf}
 use Rattle.leaf.specs.Search.{smallest_of}
-use Rattle.leaf.specs.LeafLaws.{part_leaf}
+use Rattle.leaf.proofs.LeafLaws.{part_leaf}
 use Rattle.survey.specs.Walk.{state_in, judged}
 use Rattle.survey.proofs.walk.turn.Statement.{statement}
 use Rattle.survey.proofs.walk.turn.Tie as tie

@@ -1,6 +1,6 @@
 use borrow.Author.Rules.{rules}
 use mathlib.Core.Path.{◌∙◌}
-use Rattle.writing.specs.BlockLaws.{head_in_lem}
+use Rattle.writing.proofs.BlockLaws.{head_in_lem}
 use Rattle.writing.proofs.block.head_in.Statement.{statement}
 use Rattle.writing.proofs.block.head_in.Tie as tie
 

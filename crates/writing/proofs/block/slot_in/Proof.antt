@@ -3,10 +3,10 @@ use mathlib.Core.Path.{◌≡◌, refl, ap, ◌∙◌}
 use Prim.Native.Nat.{◌+◌, ◌*◌}
 use Rattle.words.specs.Words.{reads}
 use Rattle.leaf.specs.Leaf.{Leaf}
-use Rattle.leaf.specs.LeafLaws.{part_leaf}
+use Rattle.leaf.proofs.LeafLaws.{part_leaf}
 use Rattle.leaf.specs.Search.{slot_of}
 use Rattle.image.specs.Image.{leaves}
-use Rattle.writing.specs.BlockLaws.{slot_within}
+use Rattle.writing.proofs.BlockLaws.{slot_within}
 use Rattle.writing.proofs.block.slot_in.Statement.{statement}
 use Rattle.writing.proofs.block.slot_in.Tie as tie
 

@@ -6,10 +6,11 @@ use Rattle.words.specs.Words.{reads}
 use Rattle.leaf.specs.Search.{slot_of}
 use Rattle.survey.specs.Walk.{State}
 use Rattle.image.specs.Image.{leaves}
-use Rattle.index.specs.SoundTest.{long_enough, noted_bounds, block_inside}
+use Rattle.index.proofs.SoundTest.{long_enough, noted_bounds, block_inside}
 use Rattle.lists.specs.Lists.{del_list}
 use Rattle.writing.specs.Writing.{target_of, before_of, del_of}
-use Rattle.writing.specs.ChangeLaws.{by_slot, noted_target, noted_before, change_bad, change_short, change_unsound, change_slot}
+use Rattle.writing.specs.ChangeLaws.{by_slot}
+use Rattle.writing.proofs.ChangeLaws.{noted_target, noted_before, change_bad, change_short, change_unsound, change_slot}
 use Rattle.writing.proofs.change.del.Statement.{statement}
 use Rattle.writing.proofs.change.del.Tie as tie
 

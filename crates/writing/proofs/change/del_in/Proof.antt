@@ -5,7 +5,8 @@ use Rattle.words.specs.Words.{reads}
 use Rattle.leaf.specs.declared.search.Slot.{Slot}
 use Rattle.lists.specs.Lists.{del_list}
 use Rattle.writing.specs.Writing.{made_as}
-use Rattle.writing.specs.ChangeLaws.{by_slot, del_told}
+use Rattle.writing.specs.ChangeLaws.{by_slot}
+use Rattle.writing.proofs.ChangeLaws.{del_told}
 use Rattle.writing.proofs.change.del_in.Statement.{statement}
 use Rattle.writing.proofs.change.del_in.Tie as tie
 

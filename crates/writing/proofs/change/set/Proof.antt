@@ -5,10 +5,11 @@ use Prim.Native.Nat.{ℕ}
 use Rattle.leaf.specs.Search.{slot_of}
 use Rattle.survey.specs.Walk.{State}
 use Rattle.image.specs.Image.{leaves}
-use Rattle.index.specs.SoundTest.{long_enough, noted_bounds, block_inside}
+use Rattle.index.proofs.SoundTest.{long_enough, noted_bounds, block_inside}
 use Rattle.lists.specs.Lists.{set_list}
 use Rattle.writing.specs.Writing.{target_of, set_of}
-use Rattle.writing.specs.ChangeLaws.{by_slot, noted_target, change_bad, change_short, change_unsound, change_slot}
+use Rattle.writing.specs.ChangeLaws.{by_slot}
+use Rattle.writing.proofs.ChangeLaws.{noted_target, change_bad, change_short, change_unsound, change_slot}
 use Rattle.writing.proofs.change.set.Statement.{statement}
 use Rattle.writing.proofs.change.set.Tie as tie
 

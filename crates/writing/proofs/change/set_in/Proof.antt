@@ -4,7 +4,8 @@ use mathlib.Core.Path.{sym, ap, ap₂, ◌∙◌}
 use Rattle.leaf.specs.declared.search.Slot.{Slot}
 use Rattle.lists.specs.Lists.{set_list}
 use Rattle.writing.specs.Writing.{made_as}
-use Rattle.writing.specs.ChangeLaws.{by_slot, set_told}
+use Rattle.writing.specs.ChangeLaws.{by_slot}
+use Rattle.writing.proofs.ChangeLaws.{set_told}
 use Rattle.writing.proofs.change.set_in.Statement.{statement}
 use Rattle.writing.proofs.change.set_in.Tie as tie
 

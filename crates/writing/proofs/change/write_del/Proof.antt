@@ -7,7 +7,7 @@ use Rattle.words.specs.Below.{count_below}
 use Rattle.leaf.specs.Leaf.{occ_in}
 use Rattle.steps.specs.declared.Step.{Step}
 use Rattle.steps.specs.Encoding.{written}
-use Rattle.writing.specs.ChangeLaws.{alone_unlink, others_clear}
+use Rattle.writing.proofs.ChangeLaws.{alone_unlink, others_clear}
 use Rattle.writing.proofs.change.write_del.Statement.{statement}
 use Rattle.writing.proofs.change.write_del.Tie as tie
 

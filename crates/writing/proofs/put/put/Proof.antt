@@ -8,11 +8,12 @@ use Rattle.leaf.specs.Leaf.{Right, occ_in}
 use Rattle.leaf.specs.Search.{slot_of, lowest, lowest_vacant}
 use Rattle.survey.specs.Walk.{State}
 use Rattle.image.specs.Image.{blocks, leaves}
-use Rattle.index.specs.SoundTest.{long_enough, noted_bounds, block_inside}
+use Rattle.index.proofs.SoundTest.{long_enough, noted_bounds, block_inside}
 use Rattle.lists.specs.Lists.{head_in}
 use Rattle.writing.specs.Writing.{Outcome}
-use Rattle.writing.specs.ChangeLaws.{noted_target}
-use Rattle.writing.specs.PutLaws.{noted_free, target_right, target_met, put_by, put_bad, put_short, put_unsound, put_judged}
+use Rattle.writing.proofs.ChangeLaws.{noted_target}
+use Rattle.writing.specs.PutLaws.{put_by}
+use Rattle.writing.proofs.PutLaws.{noted_free, target_right, target_met, put_bad, put_short, put_unsound, put_judged}
 use Rattle.writing.proofs.put.put.Statement.{statement}
 use Rattle.writing.proofs.put.put.Tie as tie
 

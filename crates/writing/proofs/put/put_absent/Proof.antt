@@ -7,13 +7,13 @@ use Rattle.words.specs.Words.{reads}
 use Rattle.header.specs.Header.{bits_of}
 use Rattle.leaf.specs.Leaf.{occ_in}
 use Rattle.leaf.specs.Search.{lowest, lowest_vacant}
-use Rattle.leaf.specs.SearchLaws.{vacant_at}
+use Rattle.leaf.proofs.SearchLaws.{vacant_at}
 use Rattle.leaf.specs.declared.search.Slot.{Slot}
 use Rattle.leaf.specs.declared.search.Slot.TheVariants.{Missing}
 use Rattle.survey.specs.Marks.{blocks_in, is_in}
 use Rattle.image.specs.Image.{blocks, leaves}
 use Rattle.lists.specs.Lists.{put_at}
-use Rattle.lists.specs.Put.{none_vacant}
+use Rattle.lists.proofs.Put.{none_vacant}
 use Rattle.writing.specs.Writing.{outcome}
 use Rattle.writing.specs.PutLaws.{put_by}
 use Rattle.writing.proofs.put.put_absent.Statement.{statement}

@@ -2,8 +2,8 @@ use borrow.Author.Rules.{rules}
 use native.Mathlib.Omega.{arith}
 use Rattle.words.specs.Words.{reads}
 use Rattle.header.specs.Header.{bits_of}
-use Rattle.writing.specs.PutCounts.{full_some, full_told}
-use Rattle.writing.specs.FullLaws.{seven_move, part_right, part_full, part_starts, has_leaf}
+use Rattle.writing.proofs.PutCounts.{full_some, full_told}
+use Rattle.writing.proofs.FullLaws.{seven_move, part_right, part_full, part_starts, has_leaf}
 use Rattle.writing.proofs.put.put_full.Statement.{statement}
 use Rattle.writing.proofs.put.put_full.Tie as tie
 

@@ -2,9 +2,9 @@ use borrow.Author.Rules.{rules}
 use native.Mathlib.Omega.{arith}
 use mathlib.Core.Path.{refl}
 use Prim.Native.Nat.{◌+◌, ◌*◌}
-use Rattle.leaf.specs.LeafLaws.{part_leaf}
+use Rattle.leaf.proofs.LeafLaws.{part_leaf}
 use Rattle.image.specs.Image.{leaves}
-use Rattle.writing.specs.PutCounts.{plain_some, plain_wrote}
+use Rattle.writing.proofs.PutCounts.{plain_some, plain_wrote}
 use Rattle.writing.proofs.put.put_plain.Statement.{statement}
 use Rattle.writing.proofs.put.put_plain.Tie as tie
 

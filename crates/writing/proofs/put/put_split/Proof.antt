@@ -3,12 +3,13 @@ use native.Mathlib.Omega.{arith}
 use mathlib.Core.Bool.{not}
 use mathlib.Core.Path.{sym, ap, ◌∙◌}
 use Rattle.words.specs.Words.{reads}
-use Rattle.leaf.specs.SearchLaws.{lowest_at}
+use Rattle.leaf.proofs.SearchLaws.{lowest_at}
 use Rattle.leaf.specs.declared.search.Slot.{Slot}
 use Rattle.leaf.specs.declared.search.Slot.TheVariants.{Missing}
 use Rattle.image.specs.Image.{blocks}
 use Rattle.survey.specs.Marks.{blocks_in, is_in}
-use Rattle.writing.specs.PutLaws.{put_by, out_apart}
+use Rattle.writing.specs.PutLaws.{put_by}
+use Rattle.writing.proofs.PutLaws.{out_apart}
 use Rattle.writing.proofs.put.put_split.Statement.{statement}
 use Rattle.writing.proofs.put.put_split.Tie as tie
 

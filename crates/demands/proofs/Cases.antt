@@ -1,0 +1,46 @@
+-- "P1 to P10 are proved by one statement over a table of cases": document 01's "Bench cases".
+use Rattle.std.specs.Prelude.{◌≡◌, refl, Bool, true, false, List, [], ◌∷◌, ◌++◌, ℕ, ◌+◌, ◌*◌, eqb, get_or, replicate}
+use Rattle.std.proofs.Common.{sym, eqb-true}
+use Rattle.words.specs.Bools.{bit, both, both_true, differ}
+use Rattle.words.specs.Words.{reads}
+use Rattle.machine.specs.Taking.{store_word, run_of, cut_of}
+use Rattle.image.specs.Image.{leaves}
+use Rattle.index.specs.Reading.{find_of, recovery_of}
+use Rattle.writing.specs.Writing.{Outcome}
+use Rattle.demands.specs.Demand2.{Call, put, del, answered}
+use Rattle.demands.specs.Computing.{computing}
+use Rattle.demands.specs.Cases.{Act, Case, Every, Passes, Row, State, Tells, behind, behind_alt, bytes, case, counts, cut, does, every, find, fourteen, holds, last, left, makes, puts, recovery, refuses, row, same, slot, start, step, table, told, total, word}
+
+abbrev pub image : List (ℕ × ℕ) → List ℕ → List ℕ
+image [] l = l
+image (w ∷ ws) l = image ws (store_word l w.0 w.1)
+
+abbrev tells : List Row → State → Bool
+tells [] s = true
+tells (r ∷ rs) s = both (same (told r.act s) r.tells) (tells rs (left r.act s))
+
+computed : every table ≡ true
+unfolding computing
+computed = refl
+
+same_is : (xs ys : List ℕ) → same xs ys ≡ true → xs ≡ ys
+same_is [] [] e = refl
+same_is [] (y ∷ ys) e = differ (sym e)
+same_is (x ∷ xs) [] e = differ (sym e)
+same_is (x ∷ xs) (y ∷ ys) e =
+    let p = both_true (eqb x y) (same xs ys) e in λ i. eqb-true x y p.0 i ∷ same_is xs ys p.1 i
+
+tells_is : (rs : List Row) (s : State) → tells rs s ≡ true → Tells rs s
+tells_is [] s e = tt
+tells_is (r ∷ rs) s e =
+    let p = both_true (same (told r.act s) r.tells) (tells rs (left r.act s)) e in
+    (same_is (told r.act s) r.tells p.0, tells_is rs (left r.act s) p.1)
+
+every_is : (cs : List Case) → every cs ≡ true → Every cs
+every_is [] e = tt
+every_is (c ∷ cs) e =
+    let p = both_true (tells c.rows (start c)) (every cs) e in (tells_is c.rows (start c) p.0, every_is cs p.1)
+
+-- THE STATEMENT
+pub cases : Every table
+cases = every_is table computed

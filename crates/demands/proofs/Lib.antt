@@ -1,0 +1,13 @@
+pub mod Accepted
+pub mod Alike
+pub mod Carried
+pub mod Cases
+pub mod Demand1
+pub mod Demand2
+pub mod Demand3
+pub mod Free
+pub mod Freed
+pub mod Malformed
+pub mod Sentences
+pub mod Unique
+pub mod UniqueOutside

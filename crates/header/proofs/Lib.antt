@@ -1,0 +1,5 @@
+pub mod FieldLaws
+pub mod HeaderCode
+pub mod HeaderLaws
+pub mod Lowest
+pub mod Xor

@@ -1,0 +1,9 @@
+pub mod Agreement
+pub mod AlikeReading
+pub mod Along
+pub mod BlankReading
+pub mod Filling
+pub mod FindLaws
+pub mod ListingLaws
+pub mod RecoveryLaws
+pub mod SoundTest

@@ -1,0 +1,14 @@
+pub mod AfterSplit
+pub mod Beside
+pub mod Bytes
+pub mod FullPut
+pub mod Headers
+pub mod Joined
+pub mod NewLeaf
+pub mod Parts
+pub mod PlainPut
+pub mod Put
+pub mod ServedCalls
+pub mod SetDel
+pub mod Sizes
+pub mod Slips

@@ -1,0 +1,5 @@
+pub mod Fits
+pub mod Lost
+pub mod Tables
+pub mod TakingLaws
+pub mod Turns

@@ -1,0 +1,13 @@
+pub mod Cases
+pub mod Concatenation
+pub mod EncodingLaws
+pub mod Indices
+pub mod LastFence
+pub mod Lists
+pub mod Refusals
+pub mod Rules
+pub mod Section
+pub mod Settling
+pub mod Shapes
+pub mod Stores
+pub mod Views

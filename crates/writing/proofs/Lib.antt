@@ -1,0 +1,5 @@
+pub mod BlockLaws
+pub mod ChangeLaws
+pub mod FullLaws
+pub mod PutCounts
+pub mod PutLaws
