@@ -9,15 +9,7 @@ use Rattle.index.specs.Reading.{find_of, recovery_of}
 use Rattle.writing.specs.Writing.{Outcome}
 use Rattle.demands.specs.Demand2.{Call, put, del, answered}
 use Rattle.demands.specs.Computing.{computing}
-use Rattle.demands.specs.Cases.{Act, Case, Every, Passes, Row, State, Tells, behind, behind_alt, bytes, case, counts, cut, does, every, find, fourteen, holds, last, left, makes, puts, recovery, refuses, row, same, slot, start, step, table, told, total, word}
-
-abbrev pub image : List (ℕ × ℕ) → List ℕ → List ℕ
-image [] l = l
-image (w ∷ ws) l = image ws (store_word l w.0 w.1)
-
-abbrev tells : List Row → State → Bool
-tells [] s = true
-tells (r ∷ rs) s = both (same (told r.act s) r.tells) (tells rs (left r.act s))
+use Rattle.demands.specs.Cases.{Act, Case, Every, Passes, Row, State, Tells, behind, behind_alt, bytes, case, counts, cut, does, every, find, fourteen, holds, image, last, left, makes, puts, recovery, refuses, row, same, slot, start, step, table, tells, told, total, word}
 
 computed : every table ≡ true
 unfolding computing

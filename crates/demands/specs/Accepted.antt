@@ -67,7 +67,7 @@ pub record Accepted (l list : List ℕ) (o : Outcome) (es : List Entry) (price :
 
 -- the slot of a key that is there
 pub record Held (l : List ℕ) (k : ℕ) : Type 0 where
-  slot : ℕ
-  at : place_of l k ≡ At slot
-  taken : Taken (leaves l (target_of l k)) slot
-  key : (leaves l (target_of l k)).key slot ≡ k
+  pub slot : ℕ
+  pub at : place_of l k ≡ At slot
+  pub taken : Taken (leaves l (target_of l k)) slot
+  pub key : (leaves l (target_of l k)).key slot ≡ k

@@ -25,7 +25,6 @@ use Rattle.index.proofs.Agreement.{find_accepted}
 use Rattle.index.proofs.AlikeReading.{same_bad, first_sound, second_sound, chain_first, same_chain}
 use Rattle.index.proofs.AlikeReading.{alike_find, alike_listing, alike_recovery}
 use Rattle.writing.specs.Writing.{target_of, free_of, is_among, is_missing, is_full, short_list, put_table, change_table}
-
 use Rattle.demands.specs.Calls.{Asked, find, listing, recovery, put, set, del, run, cut, Result, Allowed}
 use Rattle.demands.specs.Calls.{Told, tells, told, table}
 

@@ -83,6 +83,10 @@ pub record Case : Type 0 where
   pub stored : List (ℕ × ℕ)
   pub rows : List Row
 
+abbrev pub image : List (ℕ × ℕ) → List ℕ → List ℕ
+image [] l = l
+image (w ∷ ws) l = image ws (store_word l w.0 w.1)
+
 abbrev pub start : Case → State
 start c = record { image = image c.stored (replicate (256 * c.blocks) 0); list = replicate 112 0; lines = 0 }
 
@@ -178,6 +182,10 @@ same [] [] = true
 same [] (y ∷ ys) = false
 same (x ∷ xs) [] = false
 same (x ∷ xs) (y ∷ ys) = both (eqb x y) (same xs ys)
+
+abbrev pub tells : List Row → State → Bool
+tells [] s = true
+tells (r ∷ rs) s = both (same (told r.act s) r.tells) (tells rs (left r.act s))
 
 abbrev pub every : List Case → Bool
 every [] = true

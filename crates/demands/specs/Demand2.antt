@@ -20,7 +20,6 @@ use Rattle.index.specs.Reading.{entries_in}
 use Rattle.lists.specs.Served.{per_put, per_change}
 use Rattle.writing.specs.Writing.{Outcome, put_of, set_of, del_of}
 use Rattle.demands.specs.Holds.{Holds}
-
 use Rattle.demands.specs.Carried.{Carried}
 
 -- ---- what is demanded

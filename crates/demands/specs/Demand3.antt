@@ -65,6 +65,6 @@ abbrev pub potential : List ℕ → ℕ
 potential l = phi (leaves l) (chain_of l)
 
 pub record Paid (image : List ℕ) (W bound : ℕ) : Type 0 where
-  bytes : Bytes image
-  fine : bad_image (length image) ≡ false
-  within : 7 * W + potential image ≤ bound
+  pub bytes : Bytes image
+  pub fine : bad_image (length image) ≡ false
+  pub within : 7 * W + potential image ≤ bound

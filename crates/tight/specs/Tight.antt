@@ -37,8 +37,8 @@ left image = (cut_of image (made image 14).list 41 arrivals).image
 
 -- an image that such a cut leaves as it is
 pub record Stays (image : List ℕ) : Type 0 where
-  accepted : (made image 14).answer ≡ 0
-  steps : 41 ≤ (made image 14).steps
-  permitted : (cut_of image (made image 14).list 41 arrivals).answer ≡ 0
-  lines : taken (made image 14) 41 ≡ 6
-  same : left image ≡ image
+  pub accepted : (made image 14).answer ≡ 0
+  pub steps : 41 ≤ (made image 14).steps
+  pub permitted : (cut_of image (made image 14).list 41 arrivals).answer ≡ 0
+  pub lines : taken (made image 14) 41 ≡ 6
+  pub same : left image ≡ image
