@@ -1,18 +1,25 @@
-.PHONY: test demo library bench wear
+.PHONY: test demo library program bench wear
 
-# The gate: the layout, all proofs, all must-fail edits, all programs, the library and the host's tests of it.
+# The gate: all proofs, all must-fail edits, all programs, the library and the host's tests of it and of the bench program.
 test:
 	@bash .ci/run
 
 # The proved bench program on a day at the courthouse: each line, what it prints and what that means.
-demo:
-	@rt check bench >/dev/null && examples/courthouse/show
+demo: program
+	@examples/courthouse/show
 
-# The library for the board: proved, then compiled. Archive and header stand side by side.
+# The library for the board: the calls as C has them, proved with all below them, then compiled for any x86-64 processor.
+# Archive and header stand side by side.
 library:
-	@rt staticlib board
+	@cd crates/board_c && rt lib --cpu x86-64 >&2
+	@mkdir -p target/staticlib
+	@cp crates/board_c/out/libboard_c.a target/staticlib/libboard.a
 	@cp include/stringhut.h target/staticlib/
 	@ls target/staticlib/libboard.a target/staticlib/stringhut.h
+
+# The bench program: proved, then compiled and left at crates/bench/out/bench. To build it rt also runs it, here on no input.
+program:
+	@said=$$(cd crates/bench && rt run </dev/null 2>&1) || { printf '%s\n' "$$said" >&2; exit 1; }
 
 # Each call beside the best plain Rust we know for the same job: times, then instructions and code size. For the times both sides'
 # functions stand on 64-byte boundaries: else where the linker happens to put a loop moves its time by a tenth.

@@ -1,4 +1,4 @@
-//! The proved bench program (target/bin/bench, or what STRINGHUT_BENCH names) beside the reference's, byte for byte.
+//! The proved bench program (crates/bench/out/bench, or what STRINGHUT_BENCH names) beside the reference's, byte for byte.
 use std::io::Write;
 use std::path::PathBuf;
 use std::process::{Command, Stdio};
@@ -7,12 +7,12 @@ use stringhut::reference::program;
 use stringhut::trial::{self, settings::Settings};
 
 fn proved(input: &[u8]) -> String {
-    let built = PathBuf::from(env!("CARGO_MANIFEST_DIR")).join("../target/bin/bench");
+    let built = PathBuf::from(env!("CARGO_MANIFEST_DIR")).join("../crates/bench/out/bench");
     let mut child = Command::new(std::env::var_os("STRINGHUT_BENCH").map_or(built, PathBuf::from))
         .stdin(Stdio::piped())
         .stdout(Stdio::piped())
         .spawn()
-        .expect("the bench program is built");
+        .expect("make program builds the bench program");
     let (mut to, input) = (child.stdin.take().expect("piped"), input.to_vec());
     // A program that refuses a long input may close its end before all of it is written.
     let writer = std::thread::spawn(move || drop(to.write_all(&input)));

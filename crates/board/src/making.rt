@@ -7,24 +7,21 @@ use told::making::{HutMade, told_made};
 use writing::change::{del, set};
 use writing::put::put;
 
-#[unsafe(no_mangle)]
-pub extern "C" fn hut_put(image: &[u8], list: &mut [u64], key: u64, value: u64) -> HutMade
+pub fn hut_put(image: &[u8], list: &mut [u64], key: u64, value: u64) -> HutMade
     ensures { made_is result.answer result.steps result.line_writes result.word_writes list.new
         ≡ put_of image.now list.old key value }
 {
     told_made(put(image, list, key, value))
 }
 
-#[unsafe(no_mangle)]
-pub extern "C" fn hut_set(image: &[u8], list: &mut [u64], key: u64, value: u64) -> HutMade
+pub fn hut_set(image: &[u8], list: &mut [u64], key: u64, value: u64) -> HutMade
     ensures { made_is result.answer result.steps result.line_writes result.word_writes list.new
         ≡ set_of image.now list.old key value }
 {
     told_made(set(image, list, key, value))
 }
 
-#[unsafe(no_mangle)]
-pub extern "C" fn hut_del(image: &[u8], list: &mut [u64], key: u64) -> HutMade
+pub fn hut_del(image: &[u8], list: &mut [u64], key: u64) -> HutMade
     ensures { made_is result.answer result.steps result.line_writes result.word_writes list.new
         ≡ del_of image.now list.old key }
 {

@@ -9,32 +9,20 @@ use index::listing::listing;
 use index::recovery::recovery;
 use told::reading::{HutFound, HutListed, HutRecovered, told_found, told_listed, told_recovered};
 
-#[unsafe(no_mangle)]
-pub extern "C" fn hut_find(image: &[u8], key: u64) -> HutFound
+pub fn hut_find(image: &[u8], key: u64) -> HutFound
     ensures { told result.answer result.value ≡ find_of image.now key }
 {
     told_found(find(image, key))
 }
 
-#[unsafe(no_mangle)]
-pub extern "C" fn hut_listing(
-    image: &[u8],
-    from: u64,
-    keys: &mut [u64],
-    values: &mut [u64],
-) -> HutListed
+pub fn hut_listing(image: &[u8], from: u64, keys: &mut [u64], values: &mut [u64]) -> HutListed
     ensures { listing_is (counted result.answer result.count) keys.new values.new
         ≡ listing_of image.now from keys.old values.old }
 {
     told_listed(listing(image, from, keys, values))
 }
 
-#[unsafe(no_mangle)]
-pub extern "C" fn hut_recovery(
-    image: &[u8],
-    smallest: &mut [u64],
-    blocks: &mut [u64],
-) -> HutRecovered
+pub fn hut_recovery(image: &[u8], smallest: &mut [u64], blocks: &mut [u64]) -> HutRecovered
     ensures { recovery_is (sizes result.answer result.leaves result.entries) smallest.new blocks.new
         ≡ recovery_of image.now smallest.old blocks.old }
 {
