@@ -88,7 +88,7 @@ module _ (l list : List ℕ) (k : ℕ) (bytes : Bytes l) (e : (del_of l list k).
       ∙ reads_store l (sib_place p (alt_in (head_in (reads l) p))) (leaves l b).next
       (omega (arith, n, z.whole, alt_lt (head_in (reads l) p))) (omega (arith, good.near, z.most))
 
-  long : length m ≡ length l
+  pub long : length m ≡ length l
   long = ap length image_is ∙ length_store l (8 * sib_place p (alt_in (head_in (reads l) p))) (leaves l b).next
 
   left : Sound (leaves m) (blocks m) (B.init ++ (p ∷ J.behind))
@@ -105,10 +105,3 @@ module _ (l list : List ℕ) (k : ℕ) (bytes : Bytes l) (e : (del_of l list k).
   freed =
       let d = distinct_at J.front b J.behind J.sound.distinct in
       subst (All (λ x. x ≢ b)) (sym chain_is) (all_join (λ x. x ≢ b) J.front J.behind d.0 d.1)
-
-  -- THE STATEMENT: the next split takes the freed block, or a lower one that is free too
-  pub freed_taken : (c : ℕ) × (free_of m ≡ At c) × LowestFree (blocks m) (chain_of m) c × (c ≤ b)
-  freed_taken =
-      let z = good_length l A.fine in
-      let n = near_block (leaves l) (blocks l) J.front b J.behind J.sound z.some in
-      taken_again m b (omega (arith, n, ap (λ (n : ℕ). n / 256) long)) freed

@@ -7,7 +7,9 @@ pub mod Demand2
 pub mod Demand3
 pub mod Free
 pub mod Freed
+pub mod FreedTaken
 pub mod Malformed
+pub mod OnlyMalformed
 pub mod Sentences
 pub mod Unique
 pub mod UniqueOutside

@@ -14,29 +14,7 @@ use Rattle.command.specs.Reading.{parse_of}
 use Rattle.command.proofs.Exact.{malformed}
 use Rattle.perform.specs.Perform.{room, row, refused, performed}
 use Rattle.demands.specs.Malformed.{Without, lead, width}
-
-other_answer : (n : ℕ) (rows : List (ℕ × Bool)) → Without n rows → answer rows ≢ n
-other_answer n [] w = λ e. w (omega arith)
-other_answer n (r ∷ rows) w =
-    by_test (λ b. cond b r.0 (answer rows) ≢ n) r.1 (λ _. w.0) (λ _. other_answer n rows w.1)
-
-narrow : (fine : Bool) (es : List Entry) → width (cond fine (map row es) []) ≢ 4
-narrow true [] e = omega arith
-narrow true (x ∷ es) e = omega arith
-narrow false es e = omega arith
-
-only_malformed : (c : Command) (image : List ℕ) → (performed c image).printed ≡ refused 9 → c ≡ Malformed
-unfolding performed put_of set_of del_of
-only_malformed (Put k v) image e =
-    absurd (other_answer 9 (put_table image room k)
-    (omega arith, (omega arith, (omega arith, (omega arith, (omega arith, omega arith))))) (ap lead e))
-only_malformed (Set k v) image e =
-    absurd (other_answer 9 (change_table image room k) (omega arith, (omega arith, (omega arith, (omega arith, omega arith)))) (ap lead e))
-only_malformed (Del k) image e =
-    absurd (other_answer 9 (change_table image room k) (omega arith, (omega arith, (omega arith, (omega arith, omega arith)))) (ap lead e))
-only_malformed (Get k) image e = absurd (let z : ◌≡◌ {A = ℕ} 2 4 = ap width e in omega arith)
-only_malformed Listing image e = absurd (narrow (eqb (answer (listing_table image)) 0) (entries_in image) (ap width e))
-only_malformed Malformed image e = refl
+use Rattle.demands.proofs.OnlyMalformed.{only_malformed}
 
 -- THE STATEMENT
 pub nine : (line image : List ℕ) → ((performed (parse_of line) image).printed ≡ refused 9)

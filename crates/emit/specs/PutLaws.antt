@@ -7,7 +7,7 @@ use Rattle.leaf.specs.Leaf.{Leaf, occ_in}
 use Rattle.leaf.specs.Search.{lowest_vacant}
 use Rattle.leaf.specs.declared.search.Slot.{Slot}
 use Rattle.steps.specs.declared.Step.{Step}
-use Rattle.steps.specs.declared.Step.TheVariants.{Store as store, WriteBack as writeBack, Fence as fence}
+use Rattle.steps.specs.declared.Step.TheVariants.{Store as store, WriteBack as write_back, Fence as fence}
 use Rattle.steps.specs.Model.{line}
 use Rattle.steps.specs.Shapes.{one_store}
 use Rattle.lists.proofs.Beside.{copy_length}
@@ -17,7 +17,7 @@ use Rattle.emit.specs.Appended.{appended, Wrote, stretch_more}
 
 -- a line written back, and a fence
 abbrev pub settling : ℕ → List Step
-settling l = writeBack l ∷ fence ∷ []
+settling l = write_back l ∷ fence ∷ []
 
 -- word 1, then word 0 with its write-back and a fence
 abbrev pub header_steps : ℕ → ℕ → List Step

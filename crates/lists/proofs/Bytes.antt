@@ -8,7 +8,7 @@ use Rattle.words.specs.Words.{byte_of, bytes_of, stores, store_at, reads, store_
 use Rattle.words.specs.WordLaws.{Bytes, word_small, length_store, reads_store}
 use Rattle.words.specs.Update.{upd}
 use Rattle.steps.specs.declared.Step.{Step}
-use Rattle.steps.specs.declared.Step.TheVariants.{Store as store, WriteBack as writeBack, Fence as fence}
+use Rattle.steps.specs.declared.Step.TheVariants.{Store as store, WriteBack as write_back, Fence as fence}
 use Rattle.steps.specs.Model.{line, made, run, cut, Rule, Permitted}
 use Rattle.steps.specs.Settling.{EachStore, AllSettled}
 use Rattle.steps.proofs.Section.{Closed, cut_keeps, cut_made}
@@ -55,7 +55,7 @@ bytes_store l p v b = bytes_stores 8 0 v l p 0 b
 proper_inside : (N z : ℕ) → z ≡ 256 * N → (l : List Step) → Each (Proper N) l → Each (λ x. in_image z x ≡ true) l
 proper_inside N z e [] a = tt
 proper_inside N z e (store p v ∷ l) a = (lt-ltb (8 * p) z (omega (arith, a.0.0)), proper_inside N z e l a.1)
-proper_inside N z e (writeBack k ∷ l) a = (lt-ltb k (z / 64) (omega (arith, a.0)), proper_inside N z e l a.1)
+proper_inside N z e (write_back k ∷ l) a = (lt-ltb k (z / 64) (omega (arith, a.0)), proper_inside N z e l a.1)
 proper_inside N z e (fence ∷ l) a = (refl, proper_inside N z e l a.1)
 
 -- ---- the promise

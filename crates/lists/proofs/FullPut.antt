@@ -15,7 +15,7 @@ use Rattle.header.specs.Header.{whole, cleared_all}
 use Rattle.leaf.specs.Leaf.{Leaf, Taken, In, Right, block, view}
 use Rattle.leaf.specs.Search.{count}
 use Rattle.steps.specs.declared.Step.{Step}
-use Rattle.steps.specs.declared.Step.TheVariants.{WriteBack as writeBack}
+use Rattle.steps.specs.declared.Step.TheVariants.{WriteBack as write_back}
 use Rattle.steps.specs.Model.{Rule, line, run}
 use Rattle.steps.proofs.Settling.{Lawful}
 use Rattle.steps.specs.Section.{Section}
@@ -94,13 +94,13 @@ switched_whole w small b half =
 new_backed : (b c p : ℕ) → word_place c 0 ≤ p → p < word_place c 0 + 32 → Backed (split_backs b c) (line p)
 new_backed b c p l h =
     elim (ℕ_discrete (line p) (4 * c)) [
-      | yes e ↦ record { index = 0; inside = omega arith; is = ap writeBack (sym e) }
+      | yes e ↦ record { index = 0; inside = omega arith; is = ap write_back (sym e) }
       | no x ↦ elim (ℕ_discrete (line p) (4 * c + 1)) [
-        | yes e ↦ record { index = 1; inside = omega arith; is = ap writeBack (sym e) }
+        | yes e ↦ record { index = 1; inside = omega arith; is = ap write_back (sym e) }
         | no y ↦ elim (ℕ_discrete (line p) (4 * c + 2)) [
-          | yes e ↦ record { index = 2; inside = omega arith; is = ap writeBack (sym e) }
+          | yes e ↦ record { index = 2; inside = omega arith; is = ap write_back (sym e) }
           | no z ↦ let e : line p ≡ 4 * c + 3 = omega arith in
-              record { index = 3; inside = omega arith; is = ap writeBack (sym e) }
+              record { index = 3; inside = omega arith; is = ap write_back (sym e) }
         ]
       ]
     ]
@@ -108,7 +108,7 @@ new_backed b c p l h =
 old_backed : (b c i : ℕ) → 30 ≤ i → i < 32 → Backed (split_backs b c) (line (word_place b i))
 old_backed b c i l h =
     let e : line (word_place b i) ≡ 4 * b + 3 = omega arith in
-    record { index = 4; inside = omega arith; is = ap writeBack (sym e) }
+    record { index = 4; inside = omega arith; is = ap write_back (sym e) }
 
 -- ---- the split
 

@@ -4,7 +4,7 @@ use Rattle.std.specs.Prelude.{ℕ, ◌+◌, Bool, List, [], ◌∷◌, ◌++◌,
 use Rattle.std.proofs.Common.{arith, ap, ◌∙◌, length-append}
 use Rattle.words.specs.Below.{count_below}
 use Rattle.steps.specs.declared.Step.{Step}
-use Rattle.steps.specs.declared.Step.TheVariants.{Store as store, WriteBack as writeBack, Fence as fence}
+use Rattle.steps.specs.declared.Step.TheVariants.{Store as store, WriteBack as write_back, Fence as fence}
 use Rattle.steps.specs.Encoding.{steps_of}
 use Rattle.steps.specs.Lists.{Each, run_all}
 use Rattle.steps.proofs.Lists.{Into, Still, each_append, count_append, run_all_lem, run_all_append}
@@ -28,14 +28,14 @@ total_append f k l = rw (length-append k l) (count_append f k l)
 -- a list of stores has no line writes
 abbrev pub IsStore : Step → Type 0
 IsStore (store p v) = Unit {0}
-IsStore (writeBack k) = ⊥
+IsStore (write_back k) = ⊥
 IsStore fence = ⊥
 
 pub stores_lines : (l : List Step) → Each IsStore l → lines_of l ≡ 0
 unfolding count_below
 stores_lines [] a = refl
 stores_lines (store p v ∷ l) a = omega (arith, total_append is_line_write (store p v ∷ []) l, stores_lines l a.1)
-stores_lines (writeBack k ∷ l) a = absurd a.0
+stores_lines (write_back k ∷ l) a = absurd a.0
 stores_lines (fence ∷ l) a = absurd a.0
 
 -- .. and nothing but word writes
@@ -43,7 +43,7 @@ pub stores_words : (l : List Step) → Each IsStore l → words_of l ≡ length 
 unfolding count_below
 stores_words [] a = refl
 stores_words (store p v ∷ l) a = omega (arith, total_append is_word_write (store p v ∷ []) l, stores_words l a.1)
-stores_words (writeBack k ∷ l) a = absurd a.0
+stores_words (write_back k ∷ l) a = absurd a.0
 stores_words (fence ∷ l) a = absurd a.0
 
 -- ---- the stores s, their write-backs r, a fence, the stores t, and the switch
@@ -69,7 +69,7 @@ module _ (s r t : List Step) (p v : ℕ) where
         total_append f t (one_store p v),
       )
 
-  pub parts_each : (P : Step → Type 0) → Each P s → Each P r → P fence → Each P t → P (store p v) → P (writeBack (line p))
+  pub parts_each : (P : Step → Type 0) → Each P s → Each P r → P fence → Each P t → P (store p v) → P (write_back (line p))
       → Each P (two_parts s r t p v)
   parts_each P a b f c d e =
       each_append P s (r ++ fence ∷ (t ++ one_store p v)) a
@@ -80,7 +80,7 @@ module _ (s r t : List Step) (p v : ℕ) where
     still_run : (l : List Step) (m : M) → Still l → run_all write l m ≡ m
     still_run [] m a = refl
     still_run (store q x ∷ l) m a = absurd a.0
-    still_run (writeBack k ∷ l) m a = still_run l m a.1
+    still_run (write_back k ∷ l) m a = still_run l m a.1
     still_run (fence ∷ l) m a = still_run l m a.1
 
     pub parts_run : (m : M) → Still r

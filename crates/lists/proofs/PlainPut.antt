@@ -10,7 +10,7 @@ use Rattle.words.specs.Update.{upd}
 use Rattle.header.specs.Header.{whole}
 use Rattle.leaf.specs.Leaf.{occ_in, block, view}
 use Rattle.steps.specs.declared.Step.{Step}
-use Rattle.steps.specs.declared.Step.TheVariants.{WriteBack as writeBack}
+use Rattle.steps.specs.declared.Step.TheVariants.{WriteBack as write_back}
 use Rattle.steps.specs.Model.{Rule, line, run}
 use Rattle.steps.proofs.Settling.{Lawful}
 use Rattle.steps.specs.Section.{Section}
@@ -201,7 +201,7 @@ module _ (rule : Rule) (L : Lawful rule) (w : ℕ → ℕ) (small : Small w) (N 
     far_section =
         parts_section early (far_backs b s) word1 (word_place b 0) low rule L (Harmless w bs)
         (into_map Early (λ q x. Harmless w bs q x × (Backed (far_backs b s) (line q) ⊎ (line q ≡ line (word_place b 0))))
-        (λ q x h. (h.0, inl (record { index = 0; inside = omega arith; is = ap writeBack (sym h.1) })))
+        (λ q x h. (h.0, inl (record { index = 0; inside = omega arith; is = ap write_back (sym h.1) })))
         early
         early_stores)
         (tt, tt)

@@ -11,7 +11,7 @@ use Rattle.leaf.specs.Search.{lowest_vacant, count}
 use Rattle.leaf.proofs.SearchLaws.{vacant_at, vacant_none}
 use Rattle.leaf.specs.declared.search.Slot.TheVariants.{At, Missing}
 use Rattle.steps.specs.declared.Step.{Step}
-use Rattle.steps.specs.declared.Step.TheVariants.{Store as store, WriteBack as writeBack, Fence as fence}
+use Rattle.steps.specs.declared.Step.TheVariants.{Store as store, WriteBack as write_back, Fence as fence}
 use Rattle.steps.specs.Model.{Rule, run}
 use Rattle.steps.proofs.Settling.{Lawful}
 use Rattle.steps.specs.Encoding.{steps_of}
@@ -46,7 +46,7 @@ run_small N (store p v ∷ l) w a small =
       | yes e ↦ rw (e, upd_same w p v) a.0.1
       | no ne ↦ rw (upd_other w p v q ne) (small q)
     ])
-run_small N (writeBack k ∷ l) w a small = run_small N l w a.1 small
+run_small N (write_back k ∷ l) w a small = run_small N l w a.1 small
 run_small N (fence ∷ l) w a small = run_small N l w a.1 small
 
 -- ---- the plain put

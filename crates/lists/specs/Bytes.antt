@@ -8,7 +8,7 @@ use Rattle.words.specs.Words.{byte_of, bytes_of, stores, store_at, reads, store_
 use Rattle.words.specs.WordLaws.{Bytes, word_small, length_store, reads_store}
 use Rattle.words.specs.Update.{upd}
 use Rattle.steps.specs.declared.Step.{Step}
-use Rattle.steps.specs.declared.Step.TheVariants.{Store as store, WriteBack as writeBack, Fence as fence}
+use Rattle.steps.specs.declared.Step.TheVariants.{Store as store, WriteBack as write_back, Fence as fence}
 use Rattle.steps.specs.Model.{line, made, run, cut, Rule, Permitted}
 use Rattle.steps.specs.Settling.{EachStore, AllSettled}
 use Rattle.steps.proofs.Section.{Closed, cut_keeps, cut_made}

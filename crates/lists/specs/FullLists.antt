@@ -8,7 +8,7 @@ use Rattle.leaf.specs.Search.{lowest_vacant}
 use Rattle.leaf.specs.declared.search.Slot.{Slot}
 use Rattle.leaf.specs.declared.search.Slot.TheVariants.{At, Missing}
 use Rattle.steps.specs.declared.Step.{Step}
-use Rattle.steps.specs.declared.Step.TheVariants.{Store as store, WriteBack as writeBack}
+use Rattle.steps.specs.declared.Step.TheVariants.{Store as store, WriteBack as write_back}
 use Rattle.steps.specs.Lists.{run_all}
 use Rattle.steps.specs.Shapes.{two_parts}
 use Rattle.steps.specs.Stores.{stores_from}
@@ -69,7 +69,7 @@ split_stores w b c k v =
 -- "Write back the new leaf's four lines in order, then line 3 of the old leaf"
 abbrev pub split_backs : ℕ → ℕ → List Step
 split_backs b c =
-    writeBack (4 * c) ∷ writeBack (4 * c + 1) ∷ writeBack (4 * c + 2) ∷ writeBack (4 * c + 3) ∷ writeBack (4 * b + 3) ∷ []
+    write_back (4 * c) ∷ write_back (4 * c + 1) ∷ write_back (4 * c + 2) ∷ write_back (4 * c + 3) ∷ write_back (4 * b + 3) ∷ []
 
 -- ".. ; fence. Store the old leaf's word 0 (..); write back line 0; fence. 42 steps."
 unfoldable pub split_list : (ℕ → ℕ) → ℕ → ℕ → ℕ → ℕ → List Step

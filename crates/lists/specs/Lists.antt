@@ -11,7 +11,7 @@ use Rattle.leaf.specs.Search.{lowest_vacant, count}
 use Rattle.leaf.specs.declared.search.Slot.{Slot}
 use Rattle.leaf.specs.declared.search.Slot.TheVariants.{At, Missing}
 use Rattle.steps.specs.declared.Step.{Step}
-use Rattle.steps.specs.declared.Step.TheVariants.{Store as store, WriteBack as writeBack}
+use Rattle.steps.specs.declared.Step.TheVariants.{Store as store, WriteBack as write_back}
 use Rattle.steps.specs.Model.{line}
 use Rattle.steps.specs.Shapes.{one_store, one_line, two_parts}
 use Rattle.image.specs.Copies.{Copy, copies}
@@ -106,7 +106,7 @@ far_stores h L b s k v = entry_steps b s k v ++ copy_steps L b (copies_beside h 
 
 -- "Write back line L, fence. Store word 1, .."
 abbrev pub far_backs : ℕ → ℕ → List Step
-far_backs b s = writeBack (line (key_place b s)) ∷ []
+far_backs b s = write_back (line (key_place b s)) ∷ []
 
 abbrev pub high_store : ℕ → Leaf → ℕ → ℕ → ℕ → List Step
 high_store h L b s k = store (word_place b 1) (high_word (filled_head h L s k)) ∷ []

@@ -5,7 +5,7 @@ use Rattle.std.specs.Prelude.{ℕ, ◌+◌, ◌*◌, ◌^◌, ◌≤◌, ◌<◌
 use Rattle.words.specs.Update.{upd}
 use Rattle.leaf.specs.Leaf.{view}
 use Rattle.steps.specs.declared.Step.{Step}
-use Rattle.steps.specs.declared.Step.TheVariants.{Store as store, WriteBack as writeBack, Fence as fence}
+use Rattle.steps.specs.declared.Step.TheVariants.{Store as store, WriteBack as write_back, Fence as fence}
 use Rattle.steps.specs.Model.{line, run, cut, Rule, Permitted, line_writes, word_writes}
 use Rattle.steps.specs.Settling.{AllSettled}
 use Rattle.steps.specs.Encoding.{steps_of}
@@ -29,7 +29,7 @@ Small w = (p : ℕ) → w p < 2 ^ 64
 -- a step of an image of N blocks: N times 32 words and 4 lines
 abbrev pub Proper : ℕ → Step → Type 0
 Proper N (store p v) = (p < 32 * N) × (v < 2 ^ 64)
-Proper N (writeBack k) = k < 4 * N
+Proper N (write_back k) = k < 4 * N
 Proper N fence = Unit {0}
 
 -- the image x is sound, its entries are m, and its potential with a cost is within a bound

@@ -8,7 +8,7 @@ use Rattle.words.specs.BelowLaws.{any_none, none_make}
 use Rattle.steps.specs.Model.{line}
 use Rattle.steps.specs.Settling.{EachStore}
 use Rattle.steps.specs.declared.Step.{Step}
-use Rattle.steps.specs.declared.Step.TheVariants.{Store as store, WriteBack as writeBack, Fence as fence}
+use Rattle.steps.specs.declared.Step.TheVariants.{Store as store, WriteBack as write_back, Fence as fence}
 use Rattle.steps.specs.Encoding.{in_image, step_at, formed_at}
 use Rattle.steps.proofs.EncodingLaws.{pair_of}
 use Rattle.steps.specs.Refusals.{bad_image}
@@ -57,7 +57,7 @@ module _ (z : ℕ) (list : List ℕ) (n : ℕ) (P : Passed z list n) where
 
   fits_of : (x : Step) → in_image z x ≡ true → Fits z x
   fits_of (store p v) e = omega (arith, ltb-true (8 * p) z e, P.whole)
-  fits_of (writeBack k) e = tt
+  fits_of (write_back k) e = tt
   fits_of fence e = tt
 
   pub all_fit : AllFit z list n

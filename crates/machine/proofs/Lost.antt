@@ -12,7 +12,7 @@ use Rattle.words.specs.Below.{any_below}
 use Rattle.words.specs.BelowLaws.{any_make, any_at, any_cong, count_nth, count_sub}
 use Rattle.steps.specs.Model.{Steps, line, stores_to, made, arrives, rule01, is_settled, settles_in, settled}
 use Rattle.steps.specs.declared.Step.{Step}
-use Rattle.steps.specs.declared.Step.TheVariants.{Store as store, WriteBack as writeBack, Fence as fence}
+use Rattle.steps.specs.declared.Step.TheVariants.{Store as store, WriteBack as write_back, Fence as fence}
 use Rattle.steps.specs.Settling.{EachStore}
 use Rattle.steps.proofs.Settling.{test_settled, settled_stores, settled_counts}
 use Rattle.steps.specs.LastFence.{last_fence, had_back}
@@ -40,7 +40,7 @@ module _ (list seen : List ℕ) (i : ℕ) (x : Step) (e : x ≡ step_at list i)
       go (store p v) d =
           let h : line p < 1024 = lined p v (sym d) in
           rw (B (line p) (omega arith), T (line p) (omega arith), marked_bit (had_back (step_at list) last (line p)))
-      go (writeBack k) d = refl
+      go (write_back k) d = refl
       go fence d = refl
 
   pub arrives_by : arrives line (arrived arrivals) (arrived seen) x
@@ -50,7 +50,7 @@ module _ (list seen : List ℕ) (i : ℕ) (x : Step) (e : x ≡ step_at list i)
       go : (y : Step) → y ≡ step_at list i
           → arrives line (arrived arrivals) (arrived seen) y ≡ arrives line (arrived arrivals) (made line (step_at list) i) y
       go (store p v) d = let h : line p < 1024 = lined p v (sym d) in rw (T (line p) (omega arith))
-      go (writeBack k) d = refl
+      go (write_back k) d = refl
       go fence d = refl
 
 -- ---- a settled store that did not arrive is one of a line whose number is below its settled stores
@@ -77,7 +77,7 @@ module _ (list : List ℕ) (n : ℕ) (arrivals : List ℕ) (lines : ℕ)
           let k : i < n = omega (arith, fence_below s n) in
           let c = settled_counts line rule01 s n lawful01 lines_in_lines i p v k d (test_settled rule01 s n i (line p) r) in
           (line p, lined i p v k d, omega (arith, leb-true (arrived arrivals (line p)) (made line s i (line p)) y.1))
-      go i (writeBack k) d h t = absurd (false≢true t)
+      go i (write_back k) d h t = absurd (false≢true t)
       go i fence d h t = absurd (false≢true t)
 
   line_lost : Below → lost list n arrivals ≡ true
@@ -96,7 +96,7 @@ module _ (list : List ℕ) (n : ℕ) (arrivals : List ℕ) (lines : ℕ)
           let r = in_reach s (last_fence s n) (line p) i (ltb-true i _ (sym (settled_reach s n i (line p)) ∙ y.1)) in
           any_make (lost_at list (last_fence s n) arrivals) (last_fence s n) i r.1
           (rw (d, r.0, q) (le-leb (arrived arrivals l) (made line s i l) m))
-      go i (writeBack k) d t m = absurd (false≢true t)
+      go i (write_back k) d t m = absurd (false≢true t)
       go i fence d t m = absurd (false≢true t)
 
   outside_is : any_below (is_above list n arrivals) lines || lost list n arrivals ≡ any_below (outside list n arrivals) lines

@@ -12,7 +12,7 @@ use Rattle.words.specs.BelowLaws.{count_most}
 use Rattle.steps.specs.Model.{Steps, line, stores_to, made}
 use Rattle.steps.specs.LastFence.{had_back}
 use Rattle.steps.specs.declared.Step.{Step}
-use Rattle.steps.specs.declared.Step.TheVariants.{Store as store, WriteBack as writeBack, Fence as fence}
+use Rattle.steps.specs.declared.Step.TheVariants.{Store as store, WriteBack as write_back, Fence as fence}
 use Rattle.machine.specs.Tables.{AtMost, Backs, Tally, Zero, counted, marked}
 
 pub zeros : (n : ℕ) → Zero (replicate n 0)
@@ -38,12 +38,12 @@ tally_most s n t h l =
 
 pub counted_length : (x : Step) (t : List ℕ) → length (counted x t) ≡ length t
 counted_length (store p v) t = length-set t (line p) (get_or t (line p) 0 + 1)
-counted_length (writeBack k) t = refl
+counted_length (write_back k) t = refl
 counted_length fence t = refl
 
 pub marked_length : (x : Step) (t : List ℕ) → length (marked x t) ≡ length t
 marked_length (store p v) t = refl
-marked_length (writeBack k) t = length-set t k 1
+marked_length (write_back k) t = length-set t k 1
 marked_length fence t = refl
 
 module _ (s : Steps) (i : ℕ) (t : List ℕ) where
@@ -58,13 +58,13 @@ module _ (s : Steps) (i : ℕ) (t : List ℕ) where
         | no q ↦ rw (add-one i, ← e, ne_eqb (line p) l (λ r. q (sym r)))
             (get_or-set_other t (line p) l (get_or t (line p) 0 + 1) 0 q ∙ omega (arith, h l c))
       ]
-  tally_next (writeBack k) e h l b = rw (add-one i, ← e) (omega (arith, h l b))
+  tally_next (write_back k) e h l b = rw (add-one i, ← e) (omega (arith, h l b))
   tally_next fence e h l b = rw (add-one i, ← e) (omega (arith, h l b))
 
   pub backs_next : (x : Step) → x ≡ s i → Backs s i t → Backs s (i + 1) (marked x t)
   unfolding any_below
   backs_next (store p v) e h l b = rw (add-one i, ← e, or_none) (h l b)
-  backs_next (writeBack k) e h l b =
+  backs_next (write_back k) e h l b =
       let c : l < length t = omega (arith, length-set t k 1) in
       elim (ℕ_discrete l k) [
         | yes q ↦ rw (add-one i, ← e, q) (get_or-set_same t k 1 0 (omega (arith, q))

@@ -8,7 +8,7 @@ use Rattle.words.specs.BelowLaws.{any_none, none_make}
 use Rattle.steps.specs.Model.{line}
 use Rattle.steps.specs.Settling.{EachStore}
 use Rattle.steps.specs.declared.Step.{Step}
-use Rattle.steps.specs.declared.Step.TheVariants.{Store as store, WriteBack as writeBack, Fence as fence}
+use Rattle.steps.specs.declared.Step.TheVariants.{Store as store, WriteBack as write_back, Fence as fence}
 use Rattle.steps.specs.Encoding.{in_image, step_at, formed_at}
 use Rattle.steps.proofs.EncodingLaws.{pair_of}
 use Rattle.steps.specs.Refusals.{bad_image}
@@ -16,7 +16,7 @@ use Rattle.machine.specs.Taking.{malformed, bad_list}
 
 abbrev pub Fits : ℕ → Step → Type 0
 Fits z (store p v) = 8 * p + 8 ≤ z
-Fits z (writeBack k) = Unit {0}
+Fits z (write_back k) = Unit {0}
 Fits z fence = Unit {0}
 
 abbrev pub AllFit : ℕ → List ℕ → ℕ → Type 0

@@ -12,7 +12,7 @@ use Rattle.words.specs.Below.{any_below}
 use Rattle.words.specs.BelowLaws.{any_make, any_at, any_cong, count_nth, count_sub}
 use Rattle.steps.specs.Model.{Steps, line, stores_to, made, arrives, rule01, is_settled, settles_in, settled}
 use Rattle.steps.specs.declared.Step.{Step}
-use Rattle.steps.specs.declared.Step.TheVariants.{Store as store, WriteBack as writeBack, Fence as fence}
+use Rattle.steps.specs.declared.Step.TheVariants.{Store as store, WriteBack as write_back, Fence as fence}
 use Rattle.steps.specs.Settling.{EachStore}
 use Rattle.steps.proofs.Settling.{test_settled, settled_stores, settled_counts}
 use Rattle.steps.specs.LastFence.{last_fence, had_back}
@@ -30,7 +30,7 @@ is_above list n arrivals l = ltb (made line (step_at list) n l) (arrived arrival
 -- step i is a store that the fence at `last` settles, and did not arrive
 abbrev pub is_lost : Steps → ℕ → List ℕ → ℕ → Step → Bool
 is_lost s last arrivals i (store p v) = both (had_back s last (line p)) (leb (arrived arrivals (line p)) (made line s i (line p)))
-is_lost s last arrivals i (writeBack k) = false
+is_lost s last arrivals i (write_back k) = false
 is_lost s last arrivals i fence = false
 
 abbrev pub lost_at : List ℕ → ℕ → List ℕ → ℕ → Bool
@@ -46,7 +46,7 @@ above_by table arrivals l = ltb (get_or table l 0) (arrived arrivals l)
 abbrev pub lost_by : List ℕ → List ℕ → List ℕ → Step → Bool
 lost_by backs seen arrivals (store p v) =
     both (not (eqb (get_or backs (line p) 0) 0)) (leb (arrived arrivals (line p)) (get_or seen (line p) 0))
-lost_by backs seen arrivals (writeBack k) = false
+lost_by backs seen arrivals (write_back k) = false
 lost_by backs seen arrivals fence = false
 
 -- a fresh table for the first n steps of a list

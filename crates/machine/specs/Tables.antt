@@ -12,17 +12,17 @@ use Rattle.words.specs.BelowLaws.{count_most}
 use Rattle.steps.specs.Model.{Steps, line, stores_to, made}
 use Rattle.steps.specs.LastFence.{had_back}
 use Rattle.steps.specs.declared.Step.{Step}
-use Rattle.steps.specs.declared.Step.TheVariants.{Store as store, WriteBack as writeBack, Fence as fence}
+use Rattle.steps.specs.declared.Step.TheVariants.{Store as store, WriteBack as write_back, Fence as fence}
 
 -- a table after a step: one more for the line of a store, 1 for the line of a write-back
 abbrev pub counted : Step → List ℕ → List ℕ
 counted (store p v) t = set t (line p) (get_or t (line p) 0 + 1)
-counted (writeBack k) t = t
+counted (write_back k) t = t
 counted fence t = t
 
 abbrev pub marked : Step → List ℕ → List ℕ
 marked (store p v) t = t
-marked (writeBack k) t = set t k 1
+marked (write_back k) t = set t k 1
 marked fence t = t
 
 -- nothing counted yet

@@ -2,7 +2,7 @@
 use Rattle.std.specs.Prelude.{ℕ, cond, List, [], ◌∷◌, ◌≡◌, refl, set, eqb}
 use native.Mathlib.Omega.{arith}
 use Rattle.words.specs.Below.{any_below, count_below}
-use Rattle.steps.specs.Model.{store, writeBack, fence, Steps, line, made, cut, line_writes, word_writes}
+use Rattle.steps.specs.Model.{store, write_back, fence, Steps, line, made, cut, line_writes, word_writes}
 use Rattle.steps.specs.Model.{Rule, rule01, is_settled, settled, Permitted}
 use Rattle.steps.proofs.Settling.{settled_made}
 use Rattle.steps.specs.Encoding.{steps_of}
@@ -29,18 +29,18 @@ module _ (unit : ℕ → ℕ) (rule : Rule) (s : Steps) where
 -- ---- "Steps: write-back of line 0, store to line 0, fence. Arrivals 0 for line 0: answer 10."
 
 abbrev early : Steps
-early = steps_of (writeBack 0 ∷ store 0 5 ∷ fence ∷ [])
+early = steps_of (write_back 0 ∷ store 0 5 ∷ fence ∷ [])
 
 -- the store is settled; with no fence none is, and a fence before it settles nothing
 early_settled : settled line rule01 early 3 0 ≡ 1
 unfolding is_settled any_below count_below
 early_settled = refl
 
-no_fence : settled line rule01 (steps_of (store 0 5 ∷ writeBack 0 ∷ writeBack 0 ∷ [])) 3 0 ≡ 0
+no_fence : settled line rule01 (steps_of (store 0 5 ∷ write_back 0 ∷ write_back 0 ∷ [])) 3 0 ≡ 0
 unfolding is_settled any_below count_below
 no_fence = refl
 
-fence_too_soon : settled line rule01 (steps_of (writeBack 0 ∷ fence ∷ store 0 5 ∷ [])) 3 0 ≡ 0
+fence_too_soon : settled line rule01 (steps_of (write_back 0 ∷ fence ∷ store 0 5 ∷ [])) 3 0 ≡ 0
 unfolding is_settled any_below count_below
 fence_too_soon = refl
 

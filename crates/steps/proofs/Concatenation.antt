@@ -6,7 +6,7 @@ use Rattle.std.proofs.Math.Path.{fun_ext}
 use Rattle.words.specs.Bools.{same_test}
 use Rattle.words.specs.BelowLaws.{count_from, count_cong}
 use Rattle.steps.proofs.Indices.{by_parts}
-use Rattle.steps.specs.Model.{Step, store, writeBack, fence, Steps, line, stores_to, made, arrives, run, cut}
+use Rattle.steps.specs.Model.{Step, store, write_back, fence, Steps, line, stores_to, made, arrives, run, cut}
 use Rattle.steps.specs.Model.{Rule, Permitted}
 use Rattle.steps.specs.Settling.{Settled, AllSettled}
 use Rattle.steps.proofs.Settling.{Lawful, InLines}
@@ -52,7 +52,7 @@ arrives_from unit s a k n (store p v) =
     same_ltb (made unit s (k + n) u) (a u) (made unit (from k s) n u) (rest unit s k a u)
     (λ l. omega (arith, made_from_lem unit s k n u))
     (λ l. omega (arith, made_from_lem unit s k n u))
-arrives_from unit s a k n (writeBack l) = refl
+arrives_from unit s a k n (write_back l) = refl
 arrives_from unit s a k n fence = refl
 
 -- cutting is cutting the first part, then the rest; and so is running

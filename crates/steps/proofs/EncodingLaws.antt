@@ -6,7 +6,7 @@ use Rattle.std.proofs.Math.Path.{ap₂}
 use Rattle.std.proofs.Math.ListN.{length}
 use Rattle.std.proofs.lemmas.List.{set_at}
 use Rattle.words.specs.Bools.{both, both_true, by_test}
-use Rattle.steps.specs.Model.{Step, store, writeBack, fence}
+use Rattle.steps.specs.Model.{Step, store, write_back, fence}
 use Rattle.steps.specs.Encoding.{first, second, in_image, decode, is_pair, well_formed, step_at, formed_at}
 use Rattle.steps.specs.Encoding.{steps_of, encode, written, put_step}
 use Rattle.steps.specs.Lists.{Each}
@@ -19,7 +19,7 @@ pub decode_words : (z : ℕ) (x : Step) → z ≤ 65536 → in_image z x ≡ tru
 unfolding decode
 decode_words z (store p v) h e =
     let q : 8 * p / 8 ≡ p = omega arith in rw (lt-ltb (8 * p) 4294967296 (omega (arith, ltb-true (8 * p) z e)), q)
-decode_words z (writeBack k) h e =
+decode_words z (write_back k) h e =
     let q : 4294967296 + k - 4294967296 ≡ k = omega arith in
     rw (
       le-ltb (4294967296 + k) 4294967296 (omega arith),
@@ -48,10 +48,10 @@ pair_of z x a b e =
 pub first_small : (a b : ℕ) → a < 2 ^ 64 → first (decode a b) < 2 ^ 64
 unfolding decode
 first_small a b h =
-    by_test (λ t. first (cond t (store (a / 8) b) (cond (ltb a 8589934592) (writeBack (a - 4294967296)) fence)) < 2 ^ 64)
+    by_test (λ t. first (cond t (store (a / 8) b) (cond (ltb a 8589934592) (write_back (a - 4294967296)) fence)) < 2 ^ 64)
     (ltb a 4294967296)
     (λ e. omega arith)
-    (λ e. by_test (λ t. first (cond t (writeBack (a - 4294967296)) fence) < 2 ^ 64) (ltb a 8589934592)
+    (λ e. by_test (λ t. first (cond t (write_back (a - 4294967296)) fence) < 2 ^ 64) (ltb a 8589934592)
     (λ t. omega (arith, ltb-false a 4294967296 e))
     (λ t. omega arith))
 

@@ -6,7 +6,7 @@ use Rattle.words.specs.Bools.{by_test, same_test}
 use Rattle.words.specs.Below.{any_below}
 use Rattle.words.specs.BelowLaws.{any_make, any_at}
 use Rattle.steps.proofs.Indices.{grow}
-use Rattle.steps.specs.Model.{Step, store, writeBack, fence, Steps, writes_back, rule01, is_settled}
+use Rattle.steps.specs.Model.{Step, store, write_back, fence, Steps, writes_back, rule01, is_settled}
 use Rattle.steps.specs.Settling.{Settled}
 use Rattle.steps.proofs.Settling.{is_back, settled_test, test_settled}
 use Rattle.steps.specs.LastFence.{had_back, last_fence, on_fence}
@@ -25,7 +25,7 @@ in_reach s f l i =
 
 on_most : (x : Step) (a b c : ℕ) → a ≤ c → b ≤ c → on_fence x a b ≤ c
 on_most (store p v) a b c f g = g
-on_most (writeBack k) a b c f g = g
+on_most (write_back k) a b c f g = g
 on_most fence a b c f g = f
 
 module _ (s : Steps) where
@@ -42,7 +42,7 @@ module _ (s : Steps) where
           → (0 < last_fence s n → (s (last_fence s n) ≡ fence) × (last_fence s n < n))
           → (s (on_fence x n (last_fence s n)) ≡ fence) × (on_fence x n (last_fence s n) < suc n)
       go (store p v) e k ih = ((ih k).0, omega (arith, (ih k).1))
-      go (writeBack j) e k ih = ((ih k).0, omega (arith, (ih k).1))
+      go (write_back j) e k ih = ((ih k).0, omega (arith, (ih k).1))
       go fence e k ih = (e, omega arith)
 
   -- .. and none is behind it
@@ -51,7 +51,7 @@ module _ (s : Steps) where
     where
       go : (m : ℕ) (x : Step) → suc k ≤ m → k ≤ last_fence s m → k ≤ on_fence x m (last_fence s m)
       go m (store p v) l ih = ih
-      go m (writeBack j) l ih = ih
+      go m (write_back j) l ih = ih
       go m fence l ih = omega arith
 
   -- THE REACH: a store is settled exactly where it is before it

@@ -4,13 +4,13 @@ use Rattle.std.proofs.Common.{arith, sym, ap, ap₂, ◌∙◌, get_or-append-ad
 use Rattle.std.proofs.Math.ListN.{get_or-append}
 use Rattle.words.specs.Below.{count_below}
 use Rattle.words.specs.BelowLaws.{count_from, count_cong}
-use Rattle.steps.specs.Model.{Step, store, writeBack, fence, land, run}
+use Rattle.steps.specs.Model.{Step, store, write_back, fence, land, run}
 use Rattle.steps.specs.Encoding.{steps_of}
 use Rattle.steps.specs.Lists.{Each, run_all}
 
 abbrev pub Into : (ℕ → ℕ → Type 0) → Step → Type 0
 Into Q (store p v) = Q p v
-Into Q (writeBack k) = Unit {0}
+Into Q (write_back k) = Unit {0}
 Into Q fence = Unit {0}
 
 -- no stores
@@ -29,7 +29,7 @@ each_at P (x ∷ l) (suc i) a h = each_at P l i a.1 (omega arith)
 pub into_map : (P Q : ℕ → ℕ → Type 0) → ((p v : ℕ) → P p v → Q p v) → (l : List Step) → Each (Into P) l → Each (Into Q) l
 into_map P Q f [] a = tt
 into_map P Q f (store p v ∷ l) a = (f p v a.0, into_map P Q f l a.1)
-into_map P Q f (writeBack k ∷ l) a = (tt, into_map P Q f l a.1)
+into_map P Q f (write_back k ∷ l) a = (tt, into_map P Q f l a.1)
 into_map P Q f (fence ∷ l) a = (tt, into_map P Q f l a.1)
 
 pub at_left : (k l : List Step) (i : ℕ) → i < length k → steps_of (k ++ l) i ≡ steps_of k i

@@ -5,7 +5,7 @@ use Rattle.std.proofs.Common.{arith, sym, ap, ◌∙◌, inl, inr, ltb-true, lt-
 use Rattle.std.proofs.Math.Decide.{dec_lt, ℕ_discrete}
 use Rattle.words.specs.Bools.{by_test}
 use Rattle.steps.proofs.Indices.{grow}
-use Rattle.steps.specs.Model.{Step, store, writeBack, fence, Steps, line, made, land, arrives, run, cut}
+use Rattle.steps.specs.Model.{Step, store, write_back, fence, Steps, line, made, land, arrives, run, cut}
 use Rattle.steps.specs.Model.{Rule, Permitted}
 use Rattle.steps.specs.Settling.{EachStore, Settled, AllSettled}
 use Rattle.steps.proofs.Settling.{Arrives, Lawful, InLines}
@@ -26,13 +26,13 @@ module _ (unit : ℕ → ℕ) {M : Type 0} (write : M → ℕ → ℕ → M) whe
   -- a step arrives if it is no store, or a store in time
   in_time : (a c : ℕ → ℕ) (x : Step) → ((p v : ℕ) → x ≡ store p v → c (unit p) < a (unit p)) → arrives unit a c x ≡ true
   in_time a c (store p v) h = lt-ltb (c (unit p)) (a (unit p)) (h p v refl)
-  in_time a c (writeBack l) h = refl
+  in_time a c (write_back l) h = refl
   in_time a c fence h = refl
 
   -- a step that is no store changes nothing
   land_still : (b : Bool) (m : M) (x : Step) → ((p v : ℕ) → x ≡ store p v → ⊥) → land write b x m ≡ m
   land_still b m (store p v) h = absurd (h p v refl)
-  land_still b m (writeBack l) h = refl
+  land_still b m (write_back l) h = refl
   land_still b m fence h = refl
 
   run_still : (s : Steps) (m : M) (n N : ℕ) → n ≤ N → EachStore s N (λ i p v. i < n)
@@ -65,7 +65,7 @@ module _ (unit : ℕ → ℕ) {M : Type 0} (write : M → ℕ → ℕ → M) whe
         by_test (λ b. R (cond b (write m p v) m)) (ltb (c (unit p)) (a (unit p)))
         (λ e. up m p v (h p v refl (ltb-true _ _ e)) r)
         (λ e. r)
-    land_keeps a c m (writeBack l) h r = r
+    land_keeps a c m (write_back l) h r = r
     land_keeps a c m fence h r = r
 
     pub cut_keeps : (s : Steps) (a : ℕ → ℕ) (m : M) (n : ℕ) → EachStore s n (λ i p v. Arrives unit s a i p → U p v)

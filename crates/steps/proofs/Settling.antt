@@ -9,7 +9,7 @@ use borrow.Author.Tests.{eqb-true, eq-eqb}
 use Rattle.words.specs.Bools.{both, both_true, by_test}
 use Rattle.words.specs.Below.{any_below, count_below}
 use Rattle.words.specs.BelowLaws.{any_make, any_at, count_le, count_nth, count_cong, count_sub}
-use Rattle.steps.specs.Model.{Step, store, writeBack, fence, Steps, line, stores_to, writes_back, is_fence, made}
+use Rattle.steps.specs.Model.{Step, store, write_back, fence, Steps, line, stores_to, writes_back, is_fence, made}
 use Rattle.steps.specs.Model.{Rule, is_settled, settles_in, settled, Permitted}
 use Rattle.steps.specs.Settling.{AllSettled, EachStore, Settled}
 
@@ -30,20 +30,20 @@ InLines unit = (p q : ℕ) → unit q ≡ unit p → line q ≡ line p
 
 -- ---- the tests tell the steps
 
-pub is_back : (l : ℕ) (x : Step) → writes_back l x ≡ true → x ≡ writeBack l
+pub is_back : (l : ℕ) (x : Step) → writes_back l x ≡ true → x ≡ write_back l
 is_back l (store p v) e = absurd (false≢true e)
-is_back l (writeBack k) e = ap writeBack (eqb-true k l e)
+is_back l (write_back k) e = ap write_back (eqb-true k l e)
 is_back l fence e = absurd (false≢true e)
 
 is_fence_lem : (x : Step) → is_fence x ≡ true → x ≡ fence
 is_fence_lem (store p v) e = absurd (false≢true e)
-is_fence_lem (writeBack k) e = absurd (false≢true e)
+is_fence_lem (write_back k) e = absurd (false≢true e)
 is_fence_lem fence e = refl
 
 pub is_store : (unit : ℕ → ℕ) (u : ℕ) (x : Step) → stores_to unit u x ≡ true
     → (p : ℕ) × (v : ℕ) × (x ≡ store p v) × (unit p ≡ u)
 is_store unit u (store p v) e = (p, v, refl, eqb-true (unit p) u e)
-is_store unit u (writeBack k) e = absurd (false≢true e)
+is_store unit u (write_back k) e = absurd (false≢true e)
 is_store unit u fence e = absurd (false≢true e)
 
 pub made_store : (unit : ℕ → ℕ) (s : Steps) (i p v : ℕ) → s i ≡ store p v
@@ -100,7 +100,7 @@ module _ (unit : ℕ → ℕ) (rule : Rule) (s : Steps) (n : ℕ) where
   -- a settled store is a store
   pub settled_stores : (u i : ℕ) (x : Step) → settles_in unit rule s n u i x ≡ true → stores_to unit u x ≡ true
   settled_stores u i (store p v) e = (both_true (eqb (unit p) u) (is_settled rule s n i (line p)) e).0
-  settled_stores u i (writeBack k) e = e
+  settled_stores u i (write_back k) e = e
   settled_stores u i fence e = e
 
   pub settled_made : (u : ℕ) → settled unit rule s n u ≤ made unit s n u
@@ -120,7 +120,7 @@ module _ (unit : ℕ → ℕ) (rule : Rule) (s : Steps) (n : ℕ) where
       here i (store p v) e t l =
           let y = both_true (eqb (unit p) u) (is_settled rule s n i (line p)) t in
           h i p v l e (eqb-true (unit p) u y.0) (test_settled rule s n i (line p) y.1)
-      here i (writeBack k) e t l = absurd (false≢true t)
+      here i (write_back k) e t l = absurd (false≢true t)
       here i fence e t l = absurd (false≢true t)
 
       go : Dec (settled unit rule s n u ≤ c) → settled unit rule s n u ≤ c
@@ -146,7 +146,7 @@ module _ (unit : ℕ → ℕ) (rule : Rule) (s : Steps) (n : ℕ) where
     settled_first h i p q v w b d e u r = record {
       back = r.back;
       flush = r.flush;
-      written = r.written ∙ ap writeBack (sym (W p q u));
+      written = r.written ∙ ap write_back (sym (W p q u));
       fenced = r.fenced;
       ordered = L.earlier h i r.back r.flush b r.ordered;
       behind = r.behind;
@@ -171,7 +171,7 @@ module _ (unit : ℕ → ℕ) (rule : Rule) (s : Steps) (n : ℕ) where
             (λ y.
             sym (settled_test rule s n h (line q) (settled_first h i p q v w b d e (eqb-true (unit q) (unit p) y) r)))
             (λ y. refl)
-        same h (writeBack k) d b = refl
+        same h (write_back k) d b = refl
         same h fence d b = refl
 
     -- .. and where they are permitted every settled store arrives

@@ -6,7 +6,7 @@ use Rattle.std.proofs.Math.Decide.{dec_lt, dec_le, ℕ_discrete}
 use Rattle.std.proofs.Math.Path.{fun_ext}
 use Rattle.std.proofs.Math.Seq.{get_or-append_seam}
 use Rattle.steps.proofs.Indices.{by_parts}
-use Rattle.steps.specs.Model.{Step, store, writeBack, fence, Steps, line, run, Rule}
+use Rattle.steps.specs.Model.{Step, store, write_back, fence, Steps, line, run, Rule}
 use Rattle.steps.specs.Settling.{EachStore, Settled, AllSettled}
 use Rattle.steps.proofs.Settling.{Lawful, InLines, settled_mono}
 use Rattle.steps.specs.Section.{Section}
@@ -21,7 +21,7 @@ use Rattle.steps.specs.Shapes.{one_line, one_store, two_parts}
 pub record Backed (b : List Step) (l : ℕ) : Type 0 where
   pub index : ℕ
   pub inside : index < length b
-  pub is : steps_of b index ≡ writeBack l
+  pub is : steps_of b index ≡ write_back l
 
 -- ---- stores, write-backs, a fence, and whatever follows
 
@@ -64,7 +64,7 @@ part_settled rule L w b r i l h x = record {
 module _ (unit : ℕ → ℕ) (W : InLines unit) (rule : Rule) (L : Lawful rule) (U : ℕ → ℕ → Type 0) where
   -- where each store before K is unused, and is settled by then or in the switch's unit, the switch at K, its write-back
   -- and a fence make a section
-  end_section : (s : Steps) (K p v : ℕ) → s K ≡ store p v → s (K + 1) ≡ writeBack (line p) → s (K + 2) ≡ fence
+  end_section : (s : Steps) (K p v : ℕ) → s K ≡ store p v → s (K + 1) ≡ write_back (line p) → s (K + 2) ≡ fence
       → EachStore s K (λ i q x. U q x × (Settled rule s K i (line q) ⊎ (unit q ≡ unit p))) → Section unit rule U s (K + 3)
   end_section s K p v at0 at1 at2 f = record {
     last = K;
@@ -98,7 +98,7 @@ module _ (unit : ℕ → ℕ) (W : InLines unit) (rule : Rule) (L : Lawful rule)
       flushed i q h e = record {
         back = K + 1;
         flush = K + 2;
-        written = at1 ∙ ap writeBack (sym e);
+        written = at1 ∙ ap write_back (sym e);
         fenced = at2;
         ordered = L.follows i (K + 1) (K + 2) h (omega arith);
         behind = omega arith;
@@ -108,7 +108,7 @@ module _ (unit : ℕ → ℕ) (W : InLines unit) (rule : Rule) (L : Lawful rule)
   pub one_line_section : (t : List Step) (p v : ℕ) → Each (Into (λ q x. U q x × (unit q ≡ unit p))) t
       → Section unit rule U (steps_of (one_line t p v)) (length t + 3)
   one_line_section t p v T =
-      end_section (steps_of (t ++ z)) (length t) p v (get_or-append_seam t (store p v) (writeBack (line p) ∷ fence ∷ []) fence)
+      end_section (steps_of (t ++ z)) (length t) p v (get_or-append_seam t (store p v) (write_back (line p) ∷ fence ∷ []) fence)
       (at_right t z 1) (at_right t z 2)
       (λ i q x h e.
       let g : U q x × (unit q ≡ unit p) = stored_in (λ q x. U q x × (unit q ≡ unit p)) t z i q x T h e in (g.0, inr g.1))
@@ -123,7 +123,7 @@ module _ (unit : ℕ → ℕ) (W : InLines unit) (rule : Rule) (L : Lawful rule)
       → Section unit rule U (steps_of (two_parts w b t p v)) (length w + (length b + 1) + length t + 3)
   two_part_section w b t p v A B T =
       end_section s (k + length t) p v
-      (onward (length t) ∙ get_or-append_seam t (store p v) (writeBack (line p) ∷ fence ∷ []) fence)
+      (onward (length t) ∙ get_or-append_seam t (store p v) (write_back (line p) ∷ fence ∷ []) fence)
       (tail 1) (tail 2)
       (by_parts k (λ i. (q x : ℕ) → i < k + length t → s i ≡ store q x → Ready i q x)
       (λ i h q x g e. early i q x (part_store Q w b c A B i q x h e))

@@ -2,7 +2,7 @@
 -- them. The stores have to be such (F) that the view shows them, on memories of a kind (P) that they do not leave.
 use Rattle.std.specs.Prelude.{ℕ, zero, suc, Bool, true, false, ◌≡◌, refl}
 use Rattle.std.proofs.Common.{arith, sym, ap, ◌∙◌}
-use Rattle.steps.specs.Model.{Step, store, writeBack, fence, Steps, made, land, arrives, run, cut}
+use Rattle.steps.specs.Model.{Step, store, write_back, fence, Steps, made, land, arrives, run, cut}
 use Rattle.steps.specs.Settling.{EachStore}
 use Rattle.steps.proofs.Section.{Closed, cut_keeps, cut_made}
 
@@ -12,7 +12,7 @@ module _ {M N : Type 0} (write : M → ℕ → ℕ → M) (write' : N → ℕ �
       → view (land write b x m) ≡ land write' b x (view m)
   land_view true (store p v) m f h = shows m p v (f p v refl) h
   land_view false (store p v) m f h = refl
-  land_view b (writeBack l) m f h = refl
+  land_view b (write_back l) m f h = refl
   land_view b fence m f h = refl
 
   pub cut_view : (unit : ℕ → ℕ) (s : Steps) (a : ℕ → ℕ) (m : M) (n : ℕ) → EachStore s n (λ i p v. F p v) → P m

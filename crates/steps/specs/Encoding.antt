@@ -2,29 +2,29 @@
 -- "In a list each takes two 64-bit words."
 use Rattle.std.specs.Prelude.{ℕ, ◌+◌, ◌-◌, ◌*◌, ◌/◌, Bool, true, cond, List, [], ◌∷◌, ◌++◌, length, get_or, set, drop, ltb, eqb}
 use Rattle.words.specs.Bools.{both}
-use Rattle.steps.specs.Model.{Step, store, writeBack, fence, Steps}
+use Rattle.steps.specs.Model.{Step, store, write_back, fence, Steps}
 
 -- "A store has the byte place (..) and the value; a write-back has 2^32 plus the number of a line (..), and 0; a fence has
 -- 2^33 and 0."
 abbrev pub first : Step → ℕ
 first (store p v) = 8 * p
-first (writeBack k) = 4294967296 + k
+first (write_back k) = 4294967296 + k
 first fence = 8589934592
 
 abbrev pub second : Step → ℕ
 second (store p v) = v
-second (writeBack k) = 0
+second (write_back k) = 0
 second fence = 0
 
 -- ".. a multiple of 8, inside the image" of z bytes, ".. a line of the image"
 abbrev pub in_image : ℕ → Step → Bool
 in_image z (store p v) = ltb (8 * p) z
-in_image z (writeBack k) = ltb k (z / 64)
+in_image z (write_back k) = ltb k (z / 64)
 in_image z fence = true
 
 -- the step of two words
 unfoldable pub decode : ℕ → ℕ → Step
-decode a b = cond (ltb a 4294967296) (store (a / 8) b) (cond (ltb a 8589934592) (writeBack (a - 4294967296)) fence)
+decode a b = cond (ltb a 4294967296) (store (a / 8) b) (cond (ltb a 8589934592) (write_back (a - 4294967296)) fence)
 
 -- "Every other pair is malformed": one that is not the two words of a step inside the image.
 abbrev pub is_pair : ℕ → Step → ℕ → ℕ → Bool

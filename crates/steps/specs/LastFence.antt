@@ -5,13 +5,13 @@ use Rattle.std.proofs.Common.{arith, ltb-true, lt-ltb, eq-eqb}
 use Rattle.words.specs.Bools.{by_test, same_test}
 use Rattle.words.specs.Below.{any_below}
 use Rattle.words.specs.BelowLaws.{any_make, any_at}
-use Rattle.steps.specs.Model.{Step, store, writeBack, fence, Steps, writes_back, rule01, is_settled}
+use Rattle.steps.specs.Model.{Step, store, write_back, fence, Steps, writes_back, rule01, is_settled}
 use Rattle.steps.specs.Settling.{Settled}
 
 -- the new number at a fence, the old one at any other step; the last fence of the first n steps, 0 where there is none
 abbrev pub on_fence : Step → ℕ → ℕ → ℕ
 on_fence (store p v) new old = old
-on_fence (writeBack k) new old = old
+on_fence (write_back k) new old = old
 on_fence fence new old = new
 
 abbrev pub last_fence : Steps → ℕ → ℕ

@@ -4,7 +4,7 @@ use Rattle.std.proofs.Common.{arith, sym, ap, ap₂, ◌∙◌, get_or-append-ad
 use Rattle.std.proofs.Math.ListN.{get_or-append}
 use Rattle.words.specs.Below.{count_below}
 use Rattle.words.specs.BelowLaws.{count_from, count_cong}
-use Rattle.steps.specs.Model.{Step, store, writeBack, fence, land, run}
+use Rattle.steps.specs.Model.{Step, store, write_back, fence, land, run}
 use Rattle.steps.specs.Encoding.{steps_of}
 
 -- every step of a list; of a step, if it is a store, its place and value

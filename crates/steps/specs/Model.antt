@@ -7,7 +7,7 @@ use Rattle.std.specs.Prelude.{ℕ, zero, suc, ◌≤◌, ◌/◌, Bool, true, fa
 use Rattle.words.specs.Bools.{both}
 use Rattle.words.specs.Below.{any_below, count_below}
 pub use Rattle.steps.specs.declared.Step.{Step}
-pub use Rattle.steps.specs.declared.Step.TheVariants.{Store as store, WriteBack as writeBack, Fence as fence}
+pub use Rattle.steps.specs.declared.Step.TheVariants.{Store as store, WriteBack as write_back, Fence as fence}
 
 -- "A step is a store of one word at a place, a write-back of one line, or a fence." A place is the number of a word.
 abbrev pub Steps : Type 0
@@ -20,17 +20,17 @@ line p = p / 8
 -- a store to the unit u, a write-back of the line l, a fence
 abbrev pub stores_to : (ℕ → ℕ) → ℕ → Step → Bool
 stores_to unit u (store p v) = eqb (unit p) u
-stores_to unit u (writeBack k) = false
+stores_to unit u (write_back k) = false
 stores_to unit u fence = false
 
 abbrev pub writes_back : ℕ → Step → Bool
 writes_back l (store p v) = false
-writes_back l (writeBack k) = eqb k l
+writes_back l (write_back k) = eqb k l
 writes_back l fence = false
 
 abbrev pub is_fence : Step → Bool
 is_fence (store p v) = false
-is_fence (writeBack k) = false
+is_fence (write_back k) = false
 is_fence fence = true
 
 -- the stores made to the unit u in the first n steps
@@ -41,14 +41,14 @@ made unit s n u = count_below (λ i. stores_to unit u (s i)) n
 module _ {M : Type 0} (write : M → ℕ → ℕ → M) where
   abbrev pub land : Bool → Step → M → M
   land b (store p v) m = cond b (write m p v) m
-  land b (writeBack k) m = m
+  land b (write_back k) m = m
   land b fence m = m
 
 -- "Stores to one line reach the memory in order, so after a cut a line holds its start plus some first few of its
 -- stores." A store arrives where fewer were made to its unit before it (c) than arrived in all (a).
 abbrev pub arrives : (ℕ → ℕ) → (ℕ → ℕ) → (ℕ → ℕ) → Step → Bool
 arrives unit a c (store p v) = ltb (c (unit p)) (a (unit p))
-arrives unit a c (writeBack k) = true
+arrives unit a c (write_back k) = true
 arrives unit a c fence = true
 
 module _ {M : Type 0} (write : M → ℕ → ℕ → M) where
@@ -77,7 +77,7 @@ is_settled rule s n i l = any_below (λ k. both (is_fence (s k)) (any_below (λ 
 -- is step i a settled store to the unit u; and how many of the first n steps are one
 abbrev pub settles_in : (ℕ → ℕ) → Rule → Steps → ℕ → ℕ → ℕ → Step → Bool
 settles_in unit rule s n u i (store p v) = both (eqb (unit p) u) (is_settled rule s n i (line p))
-settles_in unit rule s n u i (writeBack k) = false
+settles_in unit rule s n u i (write_back k) = false
 settles_in unit rule s n u i fence = false
 
 abbrev pub settled : (ℕ → ℕ) → Rule → Steps → ℕ → ℕ → ℕ
@@ -93,12 +93,12 @@ pub record Permitted (unit : ℕ → ℕ) (rule : Rule) (s : Steps) (n : ℕ) (a
 -- "A line write is a write-back step, a word write a store step": how many of the first n steps are one.
 abbrev pub is_line_write : Step → Bool
 is_line_write (store p v) = false
-is_line_write (writeBack k) = true
+is_line_write (write_back k) = true
 is_line_write fence = false
 
 abbrev pub is_word_write : Step → Bool
 is_word_write (store p v) = true
-is_word_write (writeBack k) = false
+is_word_write (write_back k) = false
 is_word_write fence = false
 
 abbrev pub line_writes : Steps → ℕ → ℕ

@@ -4,7 +4,7 @@ use Rattle.std.specs.Prelude.{ℕ, zero, suc, ◌<◌, ◌≤◌, Bool, true, co
 use Rattle.std.proofs.Common.{arith, sym, ap, ◌∙◌, inl, inr, ltb-true, lt-ltb}
 use Rattle.std.proofs.Math.Decide.{dec_lt, ℕ_discrete}
 use Rattle.words.specs.Bools.{by_test}
-use Rattle.steps.specs.Model.{Step, store, writeBack, fence, Steps, line, made, land, arrives, run, cut}
+use Rattle.steps.specs.Model.{Step, store, write_back, fence, Steps, line, made, land, arrives, run, cut}
 use Rattle.steps.specs.Model.{Rule, Permitted}
 use Rattle.steps.specs.Settling.{EachStore, Settled, AllSettled}
 

@@ -9,7 +9,7 @@ use borrow.Author.Tests.{eqb-true, eq-eqb}
 use Rattle.words.specs.Bools.{both, both_true, by_test}
 use Rattle.words.specs.Below.{any_below, count_below}
 use Rattle.words.specs.BelowLaws.{any_make, any_at, count_le, count_nth, count_cong, count_sub}
-use Rattle.steps.specs.Model.{Step, store, writeBack, fence, Steps, line, stores_to, writes_back, is_fence, made}
+use Rattle.steps.specs.Model.{Step, store, write_back, fence, Steps, line, stores_to, writes_back, is_fence, made}
 use Rattle.steps.specs.Model.{Rule, is_settled, settles_in, settled, Permitted}
 
 -- of each store of the first n steps: its index, its place and its value
@@ -20,7 +20,7 @@ EachStore s n Q = (i p v : ℕ) → i < n → s i ≡ store p v → Q i p v
 pub record Settled (rule : Rule) (s : Steps) (n i l : ℕ) : Type 0 where
   pub back : ℕ
   pub flush : ℕ
-  pub written : s back ≡ writeBack l
+  pub written : s back ≡ write_back l
   pub fenced : s flush ≡ fence
   pub ordered : rule i back flush ≡ true
   pub behind : back < flush

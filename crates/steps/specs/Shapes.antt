@@ -5,7 +5,7 @@ use Rattle.std.proofs.Common.{arith, sym, ap, ◌∙◌, inl, inr}
 use Rattle.std.proofs.Math.Decide.{dec_lt, dec_le, ℕ_discrete}
 use Rattle.std.proofs.Math.Path.{fun_ext}
 use Rattle.std.proofs.Math.Seq.{get_or-append_seam}
-use Rattle.steps.specs.Model.{Step, store, writeBack, fence, Steps, line, run, Rule}
+use Rattle.steps.specs.Model.{Step, store, write_back, fence, Steps, line, run, Rule}
 use Rattle.steps.specs.Settling.{EachStore, Settled, AllSettled}
 use Rattle.steps.specs.Section.{Section}
 use Rattle.steps.specs.Encoding.{steps_of}
@@ -13,7 +13,7 @@ use Rattle.steps.specs.Lists.{Each}
 
 -- the switch, its line's write-back, a fence
 abbrev pub one_store : ℕ → ℕ → List Step
-one_store p v = store p v ∷ writeBack (line p) ∷ fence ∷ []
+one_store p v = store p v ∷ write_back (line p) ∷ fence ∷ []
 
 -- other stores to its line before it
 abbrev pub one_line : List Step → ℕ → ℕ → List Step
