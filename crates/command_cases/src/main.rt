@@ -2,60 +2,84 @@
 // kind (1 put, 2 set, 3 del, 4 get, 5 list, 9 malformed), key and value; behind the last line how many lines and bytes.
 #![tactic(auto)]
 
+ghost use Rattle.std.specs.Prelude.{◌≤◌, IfOk, length};
+
 use command::{Command, Next};
-use libc::{STDIN_FILENO, STDOUT_FILENO};
+use std::io;
+use std::io::{ErrorKind, Read, Write};
 
-fn field(n: u64, mark: &[u8]) {
-    io::print_decimal(STDOUT_FILENO, n);
-    io::write_all(STDOUT_FILENO, mark);
+fn field(rt: &impl Print, n: u64, mark: &[u8]) -> io::Result<()> {
+    print!(rt; "{n}")?;
+    io::writer(rt).write_all(mark)
 }
 
-fn tell(line: u64, kind: u64, key: u64, value: u64) {
-    field(line, b"\t");
-    field(kind, b"\t");
-    field(key, b"\t");
-    field(value, b"\n");
+fn tell(rt: &impl Print, line: u64, kind: u64, key: u64, value: u64) -> io::Result<()> {
+    field(rt, line, b"\t")?;
+    field(rt, kind, b"\t")?;
+    field(rt, key, b"\t")?;
+    field(rt, value, b"\n")
 }
 
-fn tell_command(line: u64, command: Command) {
+fn tell_command(rt: &impl Print, line: u64, command: Command) -> io::Result<()> {
     match command {
-        Command::Put(key, value) => tell(line, 1, key, value),
-        Command::Set(key, value) => tell(line, 2, key, value),
-        Command::Del(key) => tell(line, 3, key, 0),
-        Command::Get(key) => tell(line, 4, key, 0),
-        Command::List => tell(line, 5, 0, 0),
-        Command::Malformed => tell(line, 9, 0, 0),
+        Command::Put(key, value) => tell(rt, line, 1, key, value),
+        Command::Set(key, value) => tell(rt, line, 2, key, value),
+        Command::Del(key) => tell(rt, line, 3, key, 0),
+        Command::Get(key) => tell(rt, line, 4, key, 0),
+        Command::List => tell(rt, line, 5, 0, 0),
+        Command::Malformed => tell(rt, line, 9, 0, 0),
     }
 }
 
-fn tell_counts(lines: u64, bytes: u64) {
-    field(lines, b"\t");
-    field(bytes, b"\n");
+fn tell_counts(rt: &impl Print, lines: u64, bytes: u64) -> io::Result<()> {
+    field(rt, lines, b"\t")?;
+    field(rt, bytes, b"\n")
 }
 
-fn read_all(input: &[u8]) {
+fn read_all(rt: &impl Print, input: &[u8]) -> io::Result<()> {
     let mut at = 0;
     let mut lines = 0;
     loop {
         match command::read_line(input, at) {
             Next::Line(command, next) => {
                 lines += 1;
-                tell_command(lines, command);
+                tell_command(rt, lines, command)?;
                 at = next;
             }
             Next::End => break,
         }
     }
-    tell_counts(lines, input.len() as u64);
+    tell_counts(rt, lines, input.len() as u64)
 }
 
-fn main() {
-    read_all(b"");
-    read_all(b"\n");
-    read_all(b"\n\n");
-    read_all(b"list");
-    read_all(b"list\n");
+// Reads until buf is full or standard input ends, and returns how many bytes it put at the start of buf. A pipe may give fewer
+// bytes than are asked for, with more to come, and a read that a signal interrupts is tried again.
+fn read_full(rt: &impl Input, buf: &mut [u8]) -> io::Result<usize>
+    ensures { IfOk result (λ n. n ≤ length buf.new) }
+{
+    let mut reader = rt.reader();
+    let mut done = 0;
+    for _ in 0..u64::MAX {
+        if done == buf.len() {
+            return Ok(done);
+        }
+        match reader.read(&mut buf[done..]) {
+            Ok(0) => return Ok(done),
+            Ok(n) => done += n,
+            Err(e) if e.kind() == ErrorKind::Interrupted => {}
+            Err(e) => return Err(e),
+        }
+    }
+    Err(io::Error::from(ErrorKind::Interrupted))
+}
+
+fn main(rt: HostRuntime) -> io::Result<()> {
+    read_all(&rt, b"")?;
+    read_all(&rt, b"\n")?;
+    read_all(&rt, b"\n\n")?;
+    read_all(&rt, b"list")?;
+    read_all(&rt, b"list\n")?;
     let mut buf = [0u8; 4096];
-    let n = io::read_full(STDIN_FILENO, &mut buf);
-    read_all(&buf[..n]);
+    let n = read_full(&rt, &mut buf)?;
+    read_all(&rt, &buf[..n])
 }

@@ -8,7 +8,7 @@ use header::{Header, fingerprint_of};
 use leaf::place::Leaf;
 use leaf::search::{Slot, entries, find_slot, lowest_vacant};
 use leaf::tally::{has_twins, tally_of};
-use libc::STDOUT_FILENO;
+use std::io;
 
 // A slot as a number: 14 where there is none.
 fn slot_number(slot: Slot) -> u64 {
@@ -18,13 +18,12 @@ fn slot_number(slot: Slot) -> u64 {
     }
 }
 
-fn tell(n: u64) {
-    io::print_decimal(STDOUT_FILENO, n);
-    io::write_all(STDOUT_FILENO, b" ");
+fn tell(rt: &impl Print, n: u64) -> io::Result<()> {
+    print!(rt; "{n} ")
 }
 
-fn end_line() {
-    io::write_all(STDOUT_FILENO, b"\n");
+fn end_line(rt: &impl Print) -> io::Result<()> {
+    println!(rt)
 }
 
 // The entry key, key + 1 in slot s, with the fingerprint told.
@@ -40,39 +39,39 @@ fn enter(leaf: &mut [u8], s: usize, key: u64, print: u8)
 
 // Entries, smallest key (the largest word where there is none), lowest vacant slot, slots with a wrong fingerprint, whether two
 // keys are equal.
-fn tell_leaf(leaf: &[u8])
+fn tell_leaf(rt: &impl Print, leaf: &[u8]) -> io::Result<()>
     requires { 256 ≤ length leaf.now }
 {
     let head = Header::read(leaf, 0);
     let mut stamps = [0u8; 256];
     let t = tally_of(leaf, head, &mut stamps, 1);
-    tell(entries(head));
-    tell(t.least);
-    tell(slot_number(lowest_vacant(head)));
-    tell(t.wrong);
+    tell(rt, entries(head))?;
+    tell(rt, t.least)?;
+    tell(rt, slot_number(lowest_vacant(head)))?;
+    tell(rt, t.wrong)?;
     if has_twins(leaf, head, t.hits) {
-        tell(1);
+        tell(rt, 1)?;
     } else {
-        tell(0);
+        tell(rt, 0)?;
     }
-    end_line();
+    end_line(rt)
 }
 
 // Where the key stands.
-fn tell_key(leaf: &[u8], key: u64)
+fn tell_key(rt: &impl Print, leaf: &[u8], key: u64) -> io::Result<()>
     requires { 256 ≤ length leaf.now }
 {
-    tell(slot_number(find_slot(leaf, key)));
-    end_line();
+    tell(rt, slot_number(find_slot(leaf, key)))?;
+    end_line(rt)
 }
 
-fn empty_leaf() {
+fn empty_leaf(rt: &impl Print) -> io::Result<()> {
     let leaf = [0u8; 256];
-    tell_leaf(&leaf);
-    tell_key(&leaf, 0);
+    tell_leaf(rt, &leaf)?;
+    tell_key(rt, &leaf, 0)
 }
 
-fn outermost_keys() {
+fn outermost_keys(rt: &impl Print) -> io::Result<()> {
     let mut leaf = [0u8; 256];
     enter(&mut leaf, 3, 0, fingerprint_of(0));
     enter(
@@ -81,10 +80,10 @@ fn outermost_keys() {
         18446744073709551615,
         fingerprint_of(18446744073709551615),
     );
-    tell_leaf(&leaf);
-    tell_key(&leaf, 0);
-    tell_key(&leaf, 1);
-    tell_key(&leaf, 18446744073709551615);
+    tell_leaf(rt, &leaf)?;
+    tell_key(rt, &leaf, 0)?;
+    tell_key(rt, &leaf, 1)?;
+    tell_key(rt, &leaf, 18446744073709551615)
 }
 
 // Slot s gets the key 140 - 10s.
@@ -100,33 +99,33 @@ fn fill(leaf: &mut [u8])
     }
 }
 
-fn full_leaf() {
+fn full_leaf(rt: &impl Print) -> io::Result<()> {
     let mut leaf = [0u8; 256];
     fill(&mut leaf);
-    tell_leaf(&leaf);
-    tell_key(&leaf, 70);
-    tell_key(&leaf, 71);
-    tell_key(&leaf, 141);
+    tell_leaf(rt, &leaf)?;
+    tell_key(rt, &leaf, 70)?;
+    tell_key(rt, &leaf, 71)?;
+    tell_key(rt, &leaf, 141)
 }
 
 // 1, 256 and 65,536 have the fingerprint 1.
-fn one_fingerprint() {
+fn one_fingerprint(rt: &impl Print) -> io::Result<()> {
     let mut leaf = [0u8; 256];
     enter(&mut leaf, 0, 1, 1);
     enter(&mut leaf, 1, 256, 1);
-    tell_leaf(&leaf);
-    tell_key(&leaf, 1);
-    tell_key(&leaf, 256);
-    tell_key(&leaf, 65536);
+    tell_leaf(rt, &leaf)?;
+    tell_key(rt, &leaf, 1)?;
+    tell_key(rt, &leaf, 256)?;
+    tell_key(rt, &leaf, 65536)?;
     enter(&mut leaf, 8, 256, 1);
-    tell_leaf(&leaf);
+    tell_leaf(rt, &leaf)?;
     enter(&mut leaf, 8, 256, 2);
-    tell_leaf(&leaf);
+    tell_leaf(rt, &leaf)
 }
 
-fn main() {
-    empty_leaf();
-    outermost_keys();
-    full_leaf();
-    one_fingerprint();
+fn main(rt: HostRuntime) -> io::Result<()> {
+    empty_leaf(&rt)?;
+    outermost_keys(&rt)?;
+    full_leaf(&rt)?;
+    one_fingerprint(&rt)
 }
