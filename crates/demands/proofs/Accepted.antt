@@ -6,7 +6,7 @@ use Rattle.std.proofs.lemmas.Bool.{not-false}
 use Rattle.words.specs.Words.{reads}
 use Rattle.words.specs.WordLaws.{Bytes}
 use Rattle.words.specs.Bools.{both, differ}
-use Rattle.leaf.specs.Leaf.{Leaf, Taken, view}
+use Rattle.leaf.specs.Leaf.{Leaf, view}
 use Rattle.leaf.specs.Search.{count}
 use Rattle.leaf.proofs.SearchLaws.{slot_at, slot_missing}
 use Rattle.leaf.specs.declared.search.Slot.{Slot}
@@ -33,13 +33,12 @@ use Rattle.index.specs.Reading.{is_sound, chain_of, entries_in, is_none}
 use Rattle.index.proofs.SoundTest.{survey_sound, sound_survey, test_sound, sound_chain, aim_target}
 use Rattle.lists.specs.Lists.{set_list, del_list, unlink_list, clear_list, is_alone}
 use Rattle.lists.specs.FullLists.{put_list}
-use Rattle.lists.specs.Served.{lines_of}
 use Rattle.lists.specs.SetDel.{Behind}
 use Rattle.lists.proofs.ServedCalls.{set_call, del_call, put_call}
 use Rattle.lists.proofs.Sizes.{set_size, del_size, put_size}
 use Rattle.lists.specs.Bytes.{ServedBytes}
 use Rattle.writing.specs.Writing.{target_of, before_of, place_of, free_of, is_missing, is_full, block_or0}
-use Rattle.writing.specs.Writing.{Outcome, outcome, short_list, change_table, at_slot, set_of, del_of, put_of}
+use Rattle.writing.specs.Writing.{outcome, short_list, change_table, at_slot, set_of, del_of, put_of}
 use Rattle.writing.proofs.ChangeLaws.{noted_target, noted_before, noted_value}
 use Rattle.demands.proofs.Free.{free_lowest}
 use Rattle.demands.specs.Accepted.{Accepted, Held, Judged}

@@ -5,7 +5,6 @@ use Rattle.std.proofs.Math.Logic.{inl, inr}
 use Rattle.words.specs.BelowLaws.{count_le, count_cong}
 use Rattle.steps.specs.declared.Step.{Step}
 use Rattle.steps.specs.Model.{line, run, cut, rule01, Permitted, is_line_write, line_writes}
-use Rattle.steps.specs.Settling.{AllSettled}
 use Rattle.steps.proofs.Rules.{lawful01, lines_in_lines}
 use Rattle.steps.specs.Encoding.{step_at, steps_of, written}
 use Rattle.steps.proofs.EncodingLaws.{written_step}

@@ -1,15 +1,9 @@
 -- "P1 to P10 are proved by one statement over a table of cases": document 01's "Bench cases".
-use Rattle.std.specs.Prelude.{◌≡◌, refl, Bool, true, false, List, [], ◌∷◌, ◌++◌, ℕ, ◌+◌, ◌*◌, eqb, get_or, replicate}
+use Rattle.std.specs.Prelude.{◌≡◌, refl, true, List, [], ◌∷◌, ℕ, eqb}
 use Rattle.std.proofs.Common.{sym, eqb-true}
-use Rattle.words.specs.Bools.{bit, both, both_true, differ}
-use Rattle.words.specs.Words.{reads}
-use Rattle.machine.specs.Taking.{store_word, run_of, cut_of}
-use Rattle.image.specs.Image.{leaves}
-use Rattle.index.specs.Reading.{find_of, recovery_of}
-use Rattle.writing.specs.Writing.{Outcome}
-use Rattle.demands.specs.Demand2.{Call, put, del, answered}
+use Rattle.words.specs.Bools.{both_true, differ}
 use Rattle.demands.specs.Computing.{computing}
-use Rattle.demands.specs.Cases.{Act, Case, Every, Passes, Row, State, Tells, behind, behind_alt, bytes, case, counts, cut, does, every, find, fourteen, holds, image, last, left, makes, puts, recovery, refuses, row, same, slot, start, step, table, tells, told, total, word}
+use Rattle.demands.specs.Cases.{Case, Every, Row, State, Tells, every, left, same, start, table, tells, told}
 
 computed : every table ≡ true
 unfolding computing

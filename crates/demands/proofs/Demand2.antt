@@ -6,24 +6,19 @@
 -- The steps are document 01's by the calls' contracts (`put_of`, `set_of`, `del_of` write `put_list`, `set_list`, `del_list`). Here is
 -- that find and listing answer from the map (`agrees`), and what running and cutting the lists leaves (`demand2`): for every image
 -- of bytes, key, value and list, with no hypothesis but that the call was accepted.
-use Rattle.std.specs.Prelude.{◌≡◌, false, List, ◌⊎◌, ℕ, ◌^◌, ◌≤◌, ◌<◌, length}
+use Rattle.std.specs.Prelude.{◌≡◌, false, List, ℕ, length}
 use Rattle.std.proofs.Common.{inl, inr}
-use Rattle.steps.specs.Model.{rule01}
-use Rattle.steps.specs.Settling.{AllSettled}
-use Rattle.steps.specs.Encoding.{step_at}
 use Rattle.steps.specs.Refusals.{bad_image}
-use Rattle.machine.specs.Taking.{run_of, cut_of}
 use Rattle.words.specs.WordLaws.{Bytes}
-use Rattle.image.specs.Map.{Entry, put_in, without}
+use Rattle.image.specs.Map.{put_in, without}
 use Rattle.image.specs.Image.{SoundImage}
 use Rattle.index.specs.Reading.{entries_in}
 use Rattle.lists.specs.Served.{per_put, per_change}
-use Rattle.writing.specs.Writing.{Outcome, put_of, set_of, del_of}
 use Rattle.demands.specs.Holds.{Holds}
 use Rattle.demands.proofs.Accepted.{set_accepted, del_accepted, put_accepted}
 use Rattle.demands.specs.Carried.{Carried}
 use Rattle.demands.proofs.Carried.{carried, sound_holds, left_holds}
-use Rattle.demands.specs.Demand2.{Call, Demanded, Left, Numbers, after, answered, del, price, put, set}
+use Rattle.demands.specs.Demand2.{Call, Demanded, Numbers, after, answered, del, price, put, set}
 
 pub carried_call : (call : Call) (image list : List ℕ) → Bytes image → Numbers call → (answered call image list).answer ≡ 0
     → Carried image (answered call image list) (after call (entries_in image)) (price call)

@@ -4,18 +4,13 @@ use Rattle.std.specs.Prelude.{◌≡◌, refl, false, List, ℕ, ◌+◌, ◌*�
 use Rattle.std.proofs.Common.{ap, ◌∙◌, inl, inr, arith}
 use Rattle.std.proofs.lemmas.List.{length-replicate}
 use Rattle.words.specs.WordLaws.{Bytes}
-use Rattle.steps.specs.Model.{line_writes}
-use Rattle.steps.specs.Encoding.{step_at}
 use Rattle.steps.specs.Refusals.{bad_image}
-use Rattle.machine.specs.Taking.{run_of, cut_of}
 use Rattle.image.specs.Map.{Entry}
 use Rattle.image.specs.Potential.{phi}
 use Rattle.image.specs.Image.{leaves}
 use Rattle.image.proofs.ImageLaws.{length_good, zeros_blank, blank_sound, blank_phi}
-use Rattle.index.specs.Reading.{chain_of}
 use Rattle.index.proofs.SoundTest.{sound_chain}
 use Rattle.lists.specs.Bytes.{LeftBytes}
-use Rattle.writing.specs.Writing.{Outcome}
 use Rattle.demands.specs.Demand2.{Call, put, set, del, answered, Numbers, price}
 use Rattle.demands.proofs.Demand2.{carried_call}
 use Rattle.demands.specs.Demand3.{Paid, Run, blank, cut, dels, potential, puts, ran, sets, taken, whole}

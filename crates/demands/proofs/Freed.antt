@@ -1,7 +1,7 @@
 -- "Del: if the entry is the only one of a leaf other than block 0, (..) (001's steps for deletion are only the second; the first
 -- frees the block.)" The freed block is out of the chain, so that a later split takes it or a lower one: document 01's slip
 -- "A leaf freed by del and never taken again" is none of ours.
-use Rattle.std.specs.Prelude.{◌≡◌, ◌≢◌, ℕ, ◌*◌, ◌/◌, ◌≤◌, length}
+use Rattle.std.specs.Prelude.{◌≡◌, ◌≢◌, ℕ, ◌*◌, ◌/◌, length}
 use Rattle.std.proofs.Common.{sym, ◌∙◌, subst, inl, inr, arith}
 use Rattle.std.proofs.Math.Path.{ap}
 use mathlib.Core.List.{List, ◌∷◌, ◌++◌, [], append_assoc}
@@ -11,13 +11,12 @@ use Rattle.header.specs.Header.{alt_in}
 use Rattle.header.proofs.HeaderLaws.{alt_lt}
 use Rattle.leaf.specs.Leaf.{view}
 use Rattle.leaf.specs.Search.{count}
-use Rattle.leaf.specs.declared.search.Slot.TheVariants.{At}
 use Rattle.steps.specs.declared.Step.{Step}
 use Rattle.steps.specs.Model.{run}
 use Rattle.steps.specs.Encoding.{steps_of}
 use Rattle.steps.specs.Refusals.{bad_image}
 use Rattle.machine.specs.Taking.{store_word}
-use Rattle.image.specs.Chain.{All, Sound, LowestFree}
+use Rattle.image.specs.Chain.{All, Sound}
 use Rattle.image.specs.ChainLaws.{Good}
 use Rattle.image.proofs.ChainLaws.{all_split, all_join, distinct_at, sound_good}
 use Rattle.image.specs.Image.{blocks, leaves}
@@ -28,9 +27,8 @@ use Rattle.index.proofs.SoundTest.{sound_chain}
 use Rattle.lists.specs.Lists.{head_in, sib_place, unlink_list}
 use Rattle.lists.specs.SetDel.{Behind}
 use Rattle.lists.proofs.SetDel.{near_block}
-use Rattle.writing.specs.Writing.{target_of, before_of, free_of, del_of}
+use Rattle.writing.specs.Writing.{target_of, before_of, del_of}
 use Rattle.image.specs.Map.{without}
-use Rattle.demands.proofs.Free.{taken_again}
 use Rattle.demands.specs.Accepted.{Accepted, Judged}
 use Rattle.demands.proofs.Accepted.{judged, del_accepted, del_unlinks}
 use Rattle.demands.proofs.Carried.{ran_is}

@@ -1,19 +1,12 @@
 -- Refusal 9, "bench program: line malformed", is "given exactly" for a line that spells no command.
-use Rattle.std.specs.Prelude.{◌≡◌, refl, Bool, true, false, cond, List, [], ◌∷◌, map, ◌≢◌, ◌↔◌, ℕ, eqb, length}
-use Rattle.std.proofs.Common.{ap, arith}
+use Rattle.std.specs.Prelude.{◌≡◌, List, ◌↔◌, ℕ}
+use Rattle.std.proofs.Common.{ap}
 use Rattle.std.proofs.Math.Option.{some}
-use Rattle.words.specs.Bools.{by_test}
-use Rattle.steps.specs.Refusals.{answer}
-use Rattle.image.specs.Map.{Entry}
-use Rattle.index.specs.Reading.{entries_in, listing_table}
-use Rattle.writing.specs.Writing.{put_table, change_table, put_of, set_of, del_of}
 use Rattle.command.specs.declared.Command.{Command}
-use Rattle.command.specs.declared.Command.TheVariants.{Put, Set, Del, Get, List as Listing, Malformed}
 use Rattle.command.specs.Spelling.{spelling, InRange}
 use Rattle.command.specs.Reading.{parse_of}
 use Rattle.command.proofs.Exact.{malformed}
-use Rattle.perform.specs.Perform.{room, row, refused, performed}
-use Rattle.demands.specs.Malformed.{Without, lead, width}
+use Rattle.perform.specs.Perform.{refused, performed}
 use Rattle.demands.proofs.OnlyMalformed.{only_malformed}
 
 -- THE STATEMENT

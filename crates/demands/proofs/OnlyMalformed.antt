@@ -1,7 +1,6 @@
 -- Of the commands only a malformed line prints 9 0 0 0: no call's table of refusals has 9, and get and list print another width.
-use Rattle.std.specs.Prelude.{◌≡◌, refl, Bool, true, false, cond, List, [], ◌∷◌, map, ◌≢◌, ◌↔◌, ℕ, eqb, length}
+use Rattle.std.specs.Prelude.{◌≡◌, refl, Bool, true, false, cond, List, [], ◌∷◌, map, ◌≢◌, ℕ, eqb}
 use Rattle.std.proofs.Common.{ap, arith}
-use Rattle.std.proofs.Math.Option.{some}
 use Rattle.words.specs.Bools.{by_test}
 use Rattle.steps.specs.Refusals.{answer}
 use Rattle.image.specs.Map.{Entry}
@@ -9,9 +8,6 @@ use Rattle.index.specs.Reading.{entries_in, listing_table}
 use Rattle.writing.specs.Writing.{put_table, change_table, put_of, set_of, del_of}
 use Rattle.command.specs.declared.Command.{Command}
 use Rattle.command.specs.declared.Command.TheVariants.{Put, Set, Del, Get, List as Listing, Malformed}
-use Rattle.command.specs.Spelling.{spelling, InRange}
-use Rattle.command.specs.Reading.{parse_of}
-use Rattle.command.proofs.Exact.{malformed}
 use Rattle.perform.specs.Perform.{room, row, refused, performed}
 use Rattle.demands.specs.Malformed.{Without, lead, width}
 

@@ -1,5 +1,5 @@
 -- The test in each row of the calls' tables is document 01's sentence, where the rows before it are passed.
-use Rattle.std.specs.Prelude.{◌≡◌, refl, Bool, true, false, cond, not, ◌||◌, List, [], ◌∷◌, ◌⊎◌, ◌↔◌, ℕ, ◌+◌, ◌*◌, ◌/◌, ◌%◌, ◌≤◌, ◌<◌, ltb, eqb, length, get_or}
+use Rattle.std.specs.Prelude.{◌≡◌, refl, Bool, true, false, cond, not, ◌||◌, List, [], ◌∷◌, ◌⊎◌, ℕ, ◌+◌, ◌*◌, ◌/◌, ◌%◌, ◌≤◌, ◌<◌, ltb, eqb, length, get_or}
 use Rattle.std.proofs.Common.{sym, ap, ◌∙◌, subst, inl, inr, arith, ltb-true, lt-ltb, eqb-true, eq-eqb}
 use Rattle.std.proofs.Math.Option.{Option, some, none}
 use Rattle.std.proofs.lemmas.Bool.{not-true, not-false}
@@ -28,7 +28,7 @@ use Rattle.index.proofs.Agreement.{entries_list}
 use Rattle.writing.specs.Writing.{target_of, free_of, is_among, is_missing, is_full}
 use Rattle.demands.specs.Calls.{Asked, find, listing, recovery, put, set, del, run, cut, table}
 use Rattle.demands.specs.Conditions.{BadLength, Unsound, Present, Absent, Among, Full}
-use Rattle.demands.specs.Conditions.{Malformed, BadSteps, ShortBuffer, BadArrivals, Rows, conditions}
+use Rattle.demands.specs.Conditions.{Malformed, BadSteps, ShortBuffer, BadArrivals, conditions}
 use Rattle.demands.specs.Sentences.{Match, Means}
 
 -- either of two tests

@@ -1,6 +1,6 @@
 -- "Each public call's contract determines the answer, the counts and each byte of each lent buffer, for all inputs, refused ones
 -- too; prove that two results allowed by it are equal."
-use Rattle.std.specs.Prelude.{◌≡◌, refl, cond, List, ◌++◌, ℕ, eqb, drop}
+use Rattle.std.specs.Prelude.{◌≡◌, refl, List, ◌++◌, ℕ, drop}
 use Rattle.std.proofs.Common.{sym, ap, ◌∙◌}
 use Rattle.machine.specs.Taking.{ran_as}
 use Rattle.machine.specs.declared.Ran.{Ran}
@@ -21,10 +21,10 @@ use Rattle.index.specs.declared.recovery.Recovered.TheVariants.{
   ShortBuffer,
   Unsound as RecoveredUnsound,
 }
-use Rattle.index.specs.Reading.{Told, found_as, Counted, listed_as, Listing, listing_is, Sizes, recovered_as, Recovery, recovery_is}
+use Rattle.index.specs.Reading.{found_as, listed_as, Listing, listing_is, recovered_as, Recovery, recovery_is}
 use Rattle.writing.specs.declared.Made.{Made}
 use Rattle.writing.specs.declared.Made.TheVariants.{Steps, BadImage, ShortList, Unsound, Present, Absent, Full}
-use Rattle.writing.specs.Writing.{Outcome, made_as}
+use Rattle.writing.specs.Writing.{made_as}
 use Rattle.command.specs.declared.Command.{Command}
 use Rattle.command.specs.declared.Next.{Next}
 use Rattle.command.specs.Reading.{parse_of, line_at}

@@ -2,13 +2,8 @@
 use Rattle.std.specs.Prelude.{◌≡◌, List, ℕ}
 use Rattle.std.proofs.Common.{sym, ◌∙◌}
 use Rattle.machine.specs.Taking.{Outcome as Taken, run_of, cut_of}
-use Rattle.index.specs.Reading.{told, find_of, counted, listing_is, listing_of, sizes, recovery_is, recovery_of}
 use Rattle.writing.specs.Writing.{Outcome, put_of, set_of, del_of}
-use Rattle.told.specs.declared.reading.HutFound.{HutFound}
-use Rattle.told.specs.declared.reading.HutListed.{HutListed}
-use Rattle.told.specs.declared.reading.HutRecovered.{HutRecovered}
 use Rattle.told.specs.declared.making.HutMade.{HutMade}
-use Rattle.board.specs.Told.{made_is}
 use Rattle.perform.specs.Perform.{text_of, Performed, Done}
 use Rattle.demands.specs.Calls.{Asked, find, listing, recovery, put, set, del, run, cut}
 use Rattle.demands.proofs.Unique.{one_answer}

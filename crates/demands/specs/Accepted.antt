@@ -1,46 +1,22 @@
 -- An accepted call has passed its table's rows; so the image is sound, the target leaf is the survey's, and the list made is one
 -- that `lists` serves.
-use Rattle.std.specs.Prelude.{◌≡◌, refl, Bool, true, false, cond, not, List, [], ◌∷◌, ◌++◌, ◌≢◌, ℕ, ◌^◌, ◌≤◌, ◌<◌, length}
-use Rattle.std.proofs.Common.{sym, ap, ◌∙◌, subst, arith, ltb-false, eq-eqb, ne_eqb}
-use Rattle.std.proofs.lemmas.Bool.{not-false}
-use Rattle.words.specs.Words.{reads}
-use Rattle.words.specs.WordLaws.{Bytes}
-use Rattle.words.specs.Bools.{both, differ}
-use Rattle.leaf.specs.Leaf.{Leaf, Taken, view}
-use Rattle.leaf.specs.Search.{count}
-use Rattle.leaf.proofs.SearchLaws.{slot_at, slot_missing}
-use Rattle.leaf.specs.declared.search.Slot.{Slot}
-use Rattle.leaf.specs.declared.search.Slot.TheVariants.{At, Missing}
+use Rattle.std.specs.Prelude.{◌≡◌, true, false, List, ◌∷◌, ◌++◌, ◌≢◌, ℕ, ◌≤◌, length}
+use Rattle.leaf.specs.Leaf.{Taken}
+use Rattle.leaf.specs.declared.search.Slot.TheVariants.{At}
 use Rattle.steps.specs.declared.Step.{Step}
 use Rattle.steps.specs.Model.{rule01}
-use Rattle.steps.proofs.Rules.{lawful01}
-use Rattle.steps.specs.Refusals.{answer, bad_image}
-use Rattle.steps.proofs.Refusals.{row_passed}
-use Rattle.image.proofs.Blocks.{view_size}
-use Rattle.image.specs.Chain.{Sound, LowestFree}
-use Rattle.image.specs.ChainLaws.{Good}
-use Rattle.image.proofs.ChainLaws.{all_split, sound_good}
-use Rattle.image.proofs.Edits.{Absent}
-use Rattle.image.specs.Map.{Entry, lookup, put_in, without}
-use Rattle.image.specs.Entries.{list_of}
+use Rattle.steps.specs.Refusals.{bad_image}
+use Rattle.image.specs.Chain.{Sound}
+use Rattle.image.specs.Map.{Entry, lookup}
 use Rattle.image.specs.Answers.{value_at}
 use Rattle.image.specs.Image.{blocks, leaves}
-use Rattle.image.proofs.ImageLaws.{good_length}
 use Rattle.image.specs.Target.{Target}
-use Rattle.survey.specs.Walk.{surveyed}
-use Rattle.verdict.specs.Notes.{last_or, last_of}
-use Rattle.index.specs.Reading.{is_sound, chain_of, entries_in, is_none}
-use Rattle.index.proofs.SoundTest.{survey_sound, sound_survey, test_sound, sound_chain, aim_target}
-use Rattle.lists.specs.Lists.{set_list, del_list, unlink_list, clear_list, is_alone}
-use Rattle.lists.specs.FullLists.{put_list}
+use Rattle.index.specs.Reading.{is_sound, chain_of, entries_in}
 use Rattle.lists.specs.Served.{lines_of}
 use Rattle.lists.specs.SetDel.{Behind}
-use Rattle.lists.proofs.ServedCalls.{set_call, del_call, put_call}
-use Rattle.lists.proofs.Sizes.{set_size, del_size, put_size}
 use Rattle.lists.specs.Bytes.{ServedBytes}
-use Rattle.writing.specs.Writing.{target_of, before_of, place_of, free_of, is_missing, is_full, block_or0}
-use Rattle.writing.specs.Writing.{Outcome, outcome, short_list, change_table, at_slot, set_of, del_of, put_of}
-use Rattle.writing.proofs.ChangeLaws.{noted_target, noted_before, noted_value}
+use Rattle.writing.specs.Writing.{target_of, before_of, place_of}
+use Rattle.writing.specs.Writing.{Outcome, outcome}
 
 -- ---- what is known of a sound image and a key
 

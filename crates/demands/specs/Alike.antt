@@ -1,32 +1,7 @@
 -- "Two sound images alike in length, chain, occupied slots and entries give equal find, listing, recovery answers and refusals."
-use Rattle.std.specs.Prelude.{◌≡◌, refl, Bool, false, cond, not, List, [], ◌∷◌, ℕ, ◌/◌, leb, eqb, length}
-use Rattle.std.proofs.Common.{sym, ap, ◌∙◌, subst}
-use Rattle.std.proofs.Math.Option.{Option, some, none}
-use Rattle.words.specs.Bools.{both, by_test}
-use Rattle.words.specs.Below.{count_below}
-use Rattle.words.specs.BelowLaws.{count_cong}
-use Rattle.leaf.specs.Leaf.{Leaf}
-use Rattle.leaf.specs.Search.{lowest}
-use Rattle.leaf.specs.Tally.{at_most}
-use Rattle.steps.specs.Refusals.{answer, bad_image}
-use Rattle.machine.specs.Taking.{run_table, cut_table}
-use Rattle.image.specs.Map.{lookup}
-use Rattle.image.proofs.Same.{Same, Slots}
-use Rattle.image.proofs.CountLaws.{count_slots}
-use Rattle.image.proofs.ChainLaws.{Agree, all_split}
-use Rattle.image.specs.Image.{leaves, Alike}
-use Rattle.image.proofs.ImageLaws.{alike_agree}
-use Rattle.verdict.specs.Place.{reaches_to, target_from}
-use Rattle.steps.proofs.Refusals.{row_given}
-use Rattle.index.specs.Reading.{is_sound, entries_in, is_none, Told as Found, Listing, Recovery}
-use Rattle.index.proofs.SoundTest.{sound_test}
-use Rattle.index.specs.Agreement.{found_in}
-use Rattle.index.proofs.Agreement.{find_accepted}
-use Rattle.index.proofs.AlikeReading.{same_bad, first_sound, second_sound, chain_first, same_chain}
-use Rattle.index.proofs.AlikeReading.{alike_find, alike_listing, alike_recovery}
-use Rattle.writing.specs.Writing.{target_of, free_of, is_among, is_missing, is_full, short_list, put_table, change_table}
-use Rattle.demands.specs.Calls.{Asked, find, listing, recovery, put, set, del, run, cut, Result, Allowed}
-use Rattle.demands.specs.Calls.{Told, tells, told, table}
+use Rattle.std.specs.Prelude.{◌≡◌, List, ℕ}
+use Rattle.demands.specs.Calls.{Asked, find, listing, recovery, put, set, del, run, cut, Result}
+use Rattle.demands.specs.Calls.{told}
 
 -- ---- what is demanded
 

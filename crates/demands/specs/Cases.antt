@@ -1,14 +1,12 @@
 -- "P1 to P10 are proved by one statement over a table of cases": document 01's "Bench cases".
-use Rattle.std.specs.Prelude.{◌≡◌, refl, Bool, true, false, List, [], ◌∷◌, ◌++◌, ℕ, ◌+◌, ◌*◌, eqb, get_or, replicate}
-use Rattle.std.proofs.Common.{sym, eqb-true}
-use Rattle.words.specs.Bools.{bit, both, both_true, differ}
+use Rattle.std.specs.Prelude.{◌≡◌, Bool, true, false, List, [], ◌∷◌, ◌++◌, ℕ, ◌+◌, ◌*◌, eqb, get_or, replicate}
+use Rattle.words.specs.Bools.{bit, both}
 use Rattle.words.specs.Words.{reads}
 use Rattle.machine.specs.Taking.{store_word, run_of, cut_of}
 use Rattle.image.specs.Image.{leaves}
 use Rattle.index.specs.Reading.{find_of, recovery_of}
 use Rattle.writing.specs.Writing.{Outcome}
 use Rattle.demands.specs.Demand2.{Call, put, del, answered}
-use Rattle.demands.specs.Computing.{computing}
 
 -- ---- what is done, and what it tells
 

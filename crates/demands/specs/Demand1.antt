@@ -2,22 +2,12 @@
 -- 10. (..) An accepted call answers 0. A refusal tells 0 for every count and value and changes no buffer."
 --
 -- `Conditions` has each call's numbers in that order, with their sentences.
-use Rattle.std.specs.Prelude.{◌≡◌, refl, Bool, true, false, cond, List, [], ◌∷◌, ◌≢◌, ◌↔◌, ℕ, ◌<◌, ltb, eqb, length}
-use Rattle.std.proofs.Common.{sym, ap, ◌∙◌, inl, inr, arith, ltb-true, ne_eqb}
-use Rattle.words.specs.Bools.{both, both_true, by_test, differ, not_so}
-use Rattle.steps.specs.Refusals.{answer}
-use Rattle.steps.proofs.Refusals.{row_passed}
-use Rattle.steps.specs.declared.Step.{Step}
+use Rattle.std.specs.Prelude.{◌≡◌, Bool, true, List, [], ◌∷◌, ◌≢◌, ◌↔◌, ℕ, ◌<◌, ltb}
+use Rattle.words.specs.Bools.{both}
 use Rattle.image.specs.Chain.{All}
-use Rattle.machine.specs.Taking.{run_table, cut_table}
-use Rattle.index.specs.Reading.{find_of, Listing, listing_of, counted, listing_is, Recovery, recovery_of, sizes, recovery_is}
-use Rattle.index.specs.Reading.{find_table, listing_table, recovery_table}
-use Rattle.writing.specs.declared.Made.{Made}
-use Rattle.writing.specs.Writing.{Outcome, outcome, made_as, put_of, set_of, del_of, put_table, change_table}
-use Rattle.demands.specs.Calls.{Asked, find, listing, recovery, put, set, del, run, cut, Result, Allowed}
-use Rattle.demands.specs.Calls.{made, told, lent, table}
-use Rattle.demands.specs.Conditions.{Rows, conditions, Given, NoneGiven}
-use Rattle.demands.specs.Sentences.{Match}
+use Rattle.demands.specs.Calls.{Asked, Result}
+use Rattle.demands.specs.Calls.{told, lent}
+use Rattle.demands.specs.Conditions.{conditions, Given, NoneGiven}
 
 -- ---- what is demanded
 

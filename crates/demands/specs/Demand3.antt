@@ -1,22 +1,16 @@
 -- "3. From a blank image, over any run of calls, whole or cut (I puts, D dels, R sets run whole, C accepted calls cut, W line
 -- write-backs taken): 7W ≤ 20I + 7(D + R) + 42C, and no call takes more than 8."
-use Rattle.std.specs.Prelude.{◌≡◌, refl, false, List, ℕ, ◌+◌, ◌*◌, ◌≤◌, length, replicate}
-use Rattle.std.proofs.Common.{ap, ◌∙◌, inl, inr, arith}
-use Rattle.std.proofs.lemmas.List.{length-replicate}
+use Rattle.std.specs.Prelude.{◌≡◌, false, List, ℕ, ◌+◌, ◌*◌, ◌≤◌, length, replicate}
 use Rattle.words.specs.WordLaws.{Bytes}
 use Rattle.steps.specs.Model.{line_writes}
 use Rattle.steps.specs.Encoding.{step_at}
 use Rattle.steps.specs.Refusals.{bad_image}
 use Rattle.machine.specs.Taking.{run_of, cut_of}
-use Rattle.image.specs.Map.{Entry}
 use Rattle.image.specs.Potential.{phi}
 use Rattle.image.specs.Image.{leaves}
-use Rattle.image.proofs.ImageLaws.{length_good, zeros_blank, blank_sound, blank_phi}
 use Rattle.index.specs.Reading.{chain_of}
-use Rattle.index.proofs.SoundTest.{sound_chain}
-use Rattle.lists.specs.Bytes.{LeftBytes}
 use Rattle.writing.specs.Writing.{Outcome}
-use Rattle.demands.specs.Demand2.{Call, put, set, del, answered, Numbers, price}
+use Rattle.demands.specs.Demand2.{Call, put, set, del, answered, Numbers}
 
 -- ---- a run of calls
 

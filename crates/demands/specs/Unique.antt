@@ -1,8 +1,6 @@
 -- "Each public call's contract determines the answer, the counts and each byte of each lent buffer, for all inputs, refused ones
 -- too; prove that two results allowed by it are equal."
-use Rattle.std.specs.Prelude.{◌≡◌, refl, cond, List, ◌++◌, ℕ, eqb, drop}
-use Rattle.std.proofs.Common.{sym, ap, ◌∙◌}
-use Rattle.machine.specs.Taking.{ran_as}
+use Rattle.std.specs.Prelude.{◌≡◌, cond, ℕ, eqb}
 use Rattle.machine.specs.declared.Ran.{Ran}
 use Rattle.machine.specs.declared.Ran.TheVariants.{Done, BadImage as RanBadImage, BadList, BadArrivals}
 use Rattle.index.specs.declared.find.Found.{Found}
@@ -21,15 +19,10 @@ use Rattle.index.specs.declared.recovery.Recovered.TheVariants.{
   ShortBuffer,
   Unsound as RecoveredUnsound,
 }
-use Rattle.index.specs.Reading.{Told, found_as, Counted, listed_as, Listing, listing_is, Sizes, recovered_as, Recovery, recovery_is}
+use Rattle.index.specs.Reading.{Told, Counted, Sizes}
 use Rattle.writing.specs.declared.Made.{Made}
 use Rattle.writing.specs.declared.Made.TheVariants.{Steps, BadImage, ShortList, Unsound, Present, Absent, Full}
-use Rattle.writing.specs.Writing.{Outcome, made_as}
-use Rattle.command.specs.declared.Command.{Command}
-use Rattle.command.specs.declared.Next.{Next}
-use Rattle.command.specs.Reading.{parse_of, line_at}
-use Rattle.perform.specs.Perform.{Written}
-use Rattle.demands.specs.Calls.{Asked, find, listing, recovery, put, set, del, run, cut, Result, Allowed}
+use Rattle.writing.specs.Writing.{Outcome}
 
 -- ---- a way of telling from which the thing told can be had again is the same for no two things
 

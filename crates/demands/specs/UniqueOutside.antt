@@ -1,6 +1,5 @@
 -- The C interface and the bench program: two results that a contract allows are equal, as `Unique` has it for the calls below them.
 use Rattle.std.specs.Prelude.{◌≡◌, List, ℕ}
-use Rattle.std.proofs.Common.{sym, ◌∙◌}
 use Rattle.machine.specs.Taking.{Outcome as Taken, run_of, cut_of}
 use Rattle.index.specs.Reading.{told, find_of, counted, listing_is, listing_of, sizes, recovery_is, recovery_of}
 use Rattle.writing.specs.Writing.{Outcome, put_of, set_of, del_of}
@@ -9,7 +8,6 @@ use Rattle.told.specs.declared.reading.HutListed.{HutListed}
 use Rattle.told.specs.declared.reading.HutRecovered.{HutRecovered}
 use Rattle.told.specs.declared.making.HutMade.{HutMade}
 use Rattle.board.specs.Told.{made_is}
-use Rattle.perform.specs.Perform.{text_of, Performed, Done}
 use Rattle.demands.specs.Calls.{Asked, find, listing, recovery, put, set, del, run, cut}
 
 -- ---- the contracts of the C interface, as `Calls` has those below: `contracts/src/outside.rt` proves that they are the sources'

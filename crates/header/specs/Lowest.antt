@@ -1,9 +1,5 @@
 -- The lowest bit of a word that is 1, by the zeros at its end; and the lowest that is 0, by those of what it lacks to be all ones.
-use Rattle.std.specs.Prelude.{◌≡◌, refl, ℕ, zero, suc, ◌-◌, ◌/◌, ◌%◌, ◌^◌, ◌≤◌, ◌<◌}
-use Rattle.std.proofs.Common.{◌∙◌, div-one, mul_comm, pow-suc, arith}
-use Rattle.std.proofs.Math.Decide.{ℕ_discrete}
-use Rattle.std.proofs.Math.Nat.{div-div-eq-div-mul}
-use Rattle.std.specs.Int.Count.{count_trailing_zeros}
+use Rattle.std.specs.Prelude.{◌≡◌, ℕ, ◌≤◌, ◌<◌}
 use Rattle.header.specs.Fields.{field}
 
 -- of the k bits of w those below r are 0, and bit r, where it is one of them, is 1

@@ -3,7 +3,6 @@
 use Rattle.std.specs.Prelude.{◌≡◌, List, [], ◌∷◌, ◌++◌, ℕ, ◌≤◌, ◌<◌}
 use Rattle.std.proofs.Math.Path.{refl}
 use Rattle.std.proofs.Common.{sym, ap, ◌∙◌, inl, arith}
-use Rattle.std.proofs.Math.Option.{Option, some, none}
 use Rattle.leaf.specs.Leaf.{Leaf, Taken, In, Right}
 use Rattle.leaf.specs.Search.{slot_of, least_from, key_or0, smallest_of}
 use Rattle.leaf.proofs.SearchLaws.{Holds, slot_at, slot_missing, Least, least_at, least_none}

@@ -1,7 +1,7 @@
 -- Chains in two parts, what soundness says of one leaf, and images whose chained leaves agree in all that is used.
 use Rattle.std.specs.Prelude.{◌≡◌, refl, false, List, [], ◌∷◌, ◌++◌, ◌⊎◌, ◌≢◌, ℕ, zero, suc, ◌<◌, length, get_or}
 use Rattle.std.proofs.Common.{sym, ◌∙◌, inl, inr, arith}
-use Rattle.leaf.specs.Leaf.{Leaf, In, Right}
+use Rattle.leaf.specs.Leaf.{Leaf, In}
 use Rattle.image.specs.Map.{SameMap}
 use Rattle.image.specs.Chain.{All, Links, Starts, Distinct, Has, Rising, Prints, Differ, Filled, Sound}
 use Rattle.image.proofs.Same.{Same, same_sym, slots_in, slots_right, slots_filled}

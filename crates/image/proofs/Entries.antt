@@ -10,7 +10,7 @@ use native.Mathlib.Omega.{arith}
 use Rattle.std.proofs.Math.ListN.{length-append}
 use Rattle.leaf.specs.Leaf.{Leaf, Taken, In, Right}
 use Rattle.leaf.specs.Search.{count}
-use Rattle.image.specs.Map.{Map, SameMap, Entry, entry, Member, Sorted, Lists, starting_at}
+use Rattle.image.specs.Map.{Map, SameMap, Entry, Member, Sorted, Lists, starting_at}
 use Rattle.image.proofs.ListLaws.{lists_unique, sorted_function, member_left, member_right, member_split}
 use Rattle.image.proofs.ListLaws.{sorted_join, starting_lists}
 use Rattle.image.specs.Chain.{All, Has, Rising, Sound}
@@ -23,7 +23,7 @@ use Rattle.image.proofs.TargetLaws.{target_above}
 use Rattle.image.specs.Potential.{sum_of, entries}
 use Rattle.image.specs.Order.{slots_from, slots_of}
 use Rattle.image.proofs.Order.{KeysRise, Upper, slots_from_lem, slots_upper, slots_count}
-use Rattle.image.specs.Entries.{entries_at, entries_of, entry_in, list_of}
+use Rattle.image.specs.Entries.{entries_at, entries_of, list_of}
 
 -- ---- of a leaf
 

@@ -4,7 +4,7 @@
 use Rattle.std.specs.Prelude.{◌≡◌, refl, List, [], ◌∷◌, ◌++◌, ◌≢◌, ℕ, ◌<◌}
 use Rattle.std.proofs.Common.{sym, ap, ap₂, ◌∙◌, subst, inl, inr}
 use Rattle.leaf.specs.Leaf.{Leaf, In}
-use Rattle.image.specs.Chain.{All, Links, Distinct, Has, Rising, Sound}
+use Rattle.image.specs.Chain.{All, Links, Distinct, Has, Sound}
 use Rattle.image.proofs.ChainLaws.{all_split, all_join, all_map, links_join, distinct_at, rising_split, rising_join}
 use Rattle.image.specs.ChainLaws.{Good}
 use Rattle.image.proofs.ChainLaws.{sound_good, good_sound}

@@ -1,9 +1,7 @@
 -- Chains in two parts, what soundness says of one leaf, and images whose chained leaves agree in all that is used.
-use Rattle.std.specs.Prelude.{◌≡◌, refl, false, List, [], ◌∷◌, ◌++◌, ◌⊎◌, ◌≢◌, ℕ, zero, suc, ◌<◌, length, get_or}
-use Rattle.std.proofs.Common.{sym, ◌∙◌, inl, inr, arith}
-use Rattle.leaf.specs.Leaf.{Leaf, In, Right}
-use Rattle.image.specs.Map.{SameMap}
-use Rattle.image.specs.Chain.{All, Links, Starts, Distinct, Has, Rising, Prints, Differ, Filled, Sound}
+use Rattle.std.specs.Prelude.{◌≡◌, false, ◌⊎◌, ℕ, ◌<◌}
+use Rattle.leaf.specs.Leaf.{Leaf, Right}
+use Rattle.image.specs.Chain.{Filled}
 
 -- ---- soundness by leaf
 

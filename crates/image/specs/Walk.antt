@@ -1,10 +1,9 @@
 -- A walk along the siblings from block 0: what has been met is the chain so far of every chain that makes the image
 -- sound, and a leaf that stands there as soundness asks is one more of it. So a walk that finds a fault says that no
 -- chain does, and one that ends says that what it met is the chain.
-use Rattle.std.specs.Prelude.{◌≡◌, refl, List, [], ◌∷◌, ◌++◌, ◌≢◌, ℕ, ◌<◌}
-use Rattle.std.proofs.Common.{sym, ap, ap₂, ◌∙◌, subst, inl, inr}
-use Rattle.leaf.specs.Leaf.{Leaf, In}
-use Rattle.image.specs.Chain.{All, Links, Distinct, Has, Rising, Sound}
+use Rattle.std.specs.Prelude.{List, ℕ}
+use Rattle.leaf.specs.Leaf.{Leaf}
+use Rattle.image.specs.Chain.{All, Links, Distinct, Rising}
 use Rattle.image.specs.ChainLaws.{Good}
 
 -- the walk has met xs, and m comes: at its start nothing and block 0

@@ -14,7 +14,7 @@ use Rattle.image.proofs.ListLaws.{starting_lists, lookup_some, lookup_none}
 use Rattle.image.specs.Entries.{list_of}
 use Rattle.image.proofs.Entries.{chain_lists}
 use Rattle.image.specs.Image.{blocks, leaves, SoundImage, map_of}
-use Rattle.index.specs.Reading.{chain_of, entries_in, Told, told, find_of, over, counted, listing_is, listed, listing_of}
+use Rattle.index.specs.Reading.{chain_of, entries_in, told, find_of, over, counted, listing_is, listed, listing_of}
 use Rattle.index.specs.Reading.{sizes, recovery_is, is_short, recovery_of}
 use Rattle.index.proofs.SoundTest.{sound_test, sound_chain}
 use Rattle.index.proofs.FindLaws.{find_by}

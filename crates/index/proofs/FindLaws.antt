@@ -15,8 +15,7 @@ use Rattle.image.specs.Image.{blocks, leaves}
 use Rattle.survey.specs.Walk.{surveyed}
 use Rattle.index.specs.Reading.{is_sound, entries_in, Told, told, found_as, is_none, value_or0, find_of}
 use Rattle.index.proofs.SoundTest.{says_yes, says_no, noted_around}
-use Rattle.index.specs.declared.find.Found.{Found}
-use Rattle.index.specs.declared.find.Found.TheVariants.{Value, BadImage, Unsound, Absent}
+use Rattle.index.specs.declared.find.Found.TheVariants.{BadImage, Unsound}
 use Rattle.index.specs.FindLaws.{found_at}
 
 -- the answer by the three tests

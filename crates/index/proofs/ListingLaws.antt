@@ -4,7 +4,7 @@ use Rattle.std.specs.Prelude.{◌≡◌, refl, true, false, ◌≢◌, eqb, leng
 use Rattle.std.proofs.Math.Path.{sym, ap}
 use Rattle.std.proofs.Common.{◌∙◌, subst, length-take, drop_of_length-le, drop-cons}
 use Rattle.std.proofs.Math.Bool.{cond, not}
-use mathlib.Core.List.{List, [], ◌∷◌, ◌++◌, map}
+use mathlib.Core.List.{List, [], ◌∷◌, map}
 use Prim.Native.Nat.{ℕ, suc, ◌+◌, ◌-◌, ◌≤◌, ◌<◌, min}
 use Rattle.std.proofs.Math.Numerals.{add-one}
 use native.Mathlib.Omega.{arith}

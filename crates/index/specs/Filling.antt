@@ -1,21 +1,10 @@
 -- Two buffers filled with the keys and values of entries, one by one, while there is room: what the loops of listing and
 -- recovery compute, and what it comes to.
-use Rattle.std.specs.Prelude.{◌≡◌, ltb, drop, set}
-use Rattle.std.proofs.Math.Path.{refl, sym}
-use Rattle.std.proofs.Common.{ap, ◌∙◌, zero-add, lt-ltb, le-ltb, ltb-false, length-take}
+use Rattle.std.specs.Prelude.{ltb, set}
 use Rattle.std.proofs.Math.Bool.{cond}
-use mathlib.Core.List.{List, [], ◌∷◌, ◌++◌, map}
-use Prim.Native.Nat.{ℕ, suc, ◌+◌, ◌-◌, ◌≤◌, ◌<◌}
-use Rattle.std.proofs.Math.Numerals.{add-one}
-use Rattle.std.proofs.Math.Decide.{dec_lt}
-use native.Mathlib.Omega.{arith}
-use Rattle.std.proofs.Math.ListN.{length, take}
-use Rattle.std.proofs.lemmas.List.{length-map}
-use Rattle.std.proofs.lemmas.List.Edits.{sets, sets-eq}
-use Rattle.std.proofs.Math.Seq.{take-nil}
-use Rattle.words.specs.Bools.{by_test}
+use mathlib.Core.List.{List, [], ◌∷◌}
+use Prim.Native.Nat.{ℕ, ◌+◌}
 use Rattle.image.specs.Map.{Entry}
-use Rattle.index.specs.Reading.{over}
 
 -- ---- the buffers
 

@@ -1,5 +1,5 @@
 -- One turn of the pass over the slots, and of the search for twins.
-use Rattle.std.specs.Prelude.{◌≡◌, true, false, cond, not, List, ◌≢◌, ℕ, zero, suc, ◌+◌, ◌*◌, ◌/◌, ◌%◌, ◌^◌, ◌≤◌, ◌<◌, min, max, eqb, length, set}
+use Rattle.std.specs.Prelude.{◌≡◌, true, false, cond, not, List, ◌≢◌, ℕ, zero, suc, ◌+◌, ◌*◌, ◌/◌, ◌≤◌, ◌<◌, min, max, eqb, length, set}
 use Rattle.std.proofs.Math.Path.{refl, subst}
 use Rattle.std.proofs.Common.{sym, ap, ◌∙◌, pow_mono, get_or-set_same, get_or-set_other}
 use Rattle.std.proofs.Math.Decide.{ℕ_discrete}

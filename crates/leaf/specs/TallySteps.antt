@@ -1,20 +1,10 @@
 -- One turn of the pass over the slots, and of the search for twins.
-use Rattle.std.specs.Prelude.{◌≡◌, true, false, cond, not, List, ◌≢◌, ℕ, zero, suc, ◌+◌, ◌*◌, ◌/◌, ◌%◌, ◌^◌, ◌≤◌, ◌<◌, min, max, eqb, length, set}
-use Rattle.std.proofs.Math.Path.{refl, subst}
-use Rattle.std.proofs.Common.{sym, ap, ◌∙◌, pow_mono, get_or-set_same, get_or-set_other}
-use Rattle.std.proofs.Math.Decide.{ℕ_discrete}
-use Rattle.std.proofs.Math.Nat.{pow-suc}
-use Rattle.std.proofs.Math.Numerals.{add-one}
-use native.Mathlib.Omega.{arith}
-use borrow.Author.Tests.{eq-eqb, ne_eqb, eqb-true}
+use Rattle.std.specs.Prelude.{◌≡◌, false, cond, not, List, ℕ, zero, suc, ◌+◌, ◌*◌, ◌/◌, ◌%◌, ◌^◌, ◌<◌, min, max, eqb}
 use Rattle.std.proofs.Math.ListN.{get_or}
-use Rattle.words.specs.Bools.{bit_most, both, both_true, differ, not_so, or_none}
-use Rattle.words.specs.Below.{any_below, count_below}
-use Rattle.words.specs.BelowLaws.{any_make, none_make, count_most}
+use Rattle.words.specs.Below.{count_below}
 use Rattle.header.specs.Header.{fingerprint_of}
-use Rattle.leaf.specs.Leaf.{Leaf, Taken, leaf_in}
-use Rattle.leaf.specs.Search.{count}
-use Rattle.leaf.specs.Tally.{wrong_at, least_to, most_to, shares, twin_at, twins, Tells}
+use Rattle.leaf.specs.Leaf.{Leaf, Taken}
+use Rattle.leaf.specs.Tally.{wrong_at, least_to, most_to, twin_at}
 use Rattle.leaf.specs.declared.tally.Tally.{Tally}
 
 -- ---- the pass

@@ -1,6 +1,6 @@
 -- What is promised of a list, in bytes: the image that run and cut leave has as many bytes as before, and its words are
 -- those that the promise in words is about. To be believed: the definitions down to the first line of dashes.
-use Rattle.std.specs.Prelude.{ℕ, zero, suc, ◌+◌, ◌*◌, ◌/◌, ◌^◌, ◌≤◌, ◌<◌, true, List, [], ◌∷◌, ◌≡◌, refl, ◌⊎◌, length, set}
+use Rattle.std.specs.Prelude.{ℕ, zero, suc, ◌+◌, ◌*◌, ◌/◌, ◌^◌, ◌≤◌, ◌<◌, true, List, [], ◌∷◌, ◌≡◌, refl, length, set}
 use Rattle.std.proofs.Math.Decide.{ℕ_discrete, dec_lt}
 use Rattle.std.proofs.Common.{arith, ap, ◌∙◌, inl, inr, length-set, get_or-set_same, get_or-set_other, lt-ltb}
 use Rattle.std.proofs.Math.ListN.{get_or-eq_default}
@@ -9,18 +9,16 @@ use Rattle.words.specs.WordLaws.{Bytes, word_small, length_store, reads_store}
 use Rattle.words.specs.Update.{upd}
 use Rattle.steps.specs.declared.Step.{Step}
 use Rattle.steps.specs.declared.Step.TheVariants.{Store as store, WriteBack as write_back, Fence as fence}
-use Rattle.steps.specs.Model.{line, made, run, cut, Rule, Permitted}
-use Rattle.steps.specs.Settling.{EachStore, AllSettled}
+use Rattle.steps.specs.Model.{line, made, run, cut, Rule}
+use Rattle.steps.specs.Settling.{EachStore}
 use Rattle.steps.proofs.Section.{Closed, cut_keeps, cut_made}
 use Rattle.steps.specs.Encoding.{in_image, steps_of}
 use Rattle.steps.specs.Lists.{Each}
 use Rattle.steps.proofs.Lists.{each_at}
 use Rattle.steps.proofs.Views.{cut_view, run_view}
 use Rattle.image.specs.Map.{Entry}
-use Rattle.image.specs.Image.{blocks, leaves}
-use Rattle.image.specs.Potential.{phi}
-use Rattle.image.specs.Entries.{list_of}
-use Rattle.lists.specs.Served.{per_cut, Proper, Small, Left, spent, Served}
+use Rattle.image.specs.Image.{blocks}
+use Rattle.lists.specs.Served.{Proper, Small, Left, Served}
 use Rattle.lists.specs.Bytes.{LeftBytes, ServedBytes}
 
 -- ---- bytes make words of 64 bits

@@ -1,5 +1,5 @@
 -- What a call knows that has passed the refusals 1 and 7: its steps' stores are inside the image, which has z bytes.
-use Rattle.std.specs.Prelude.{ℕ, ◌+◌, ◌*◌, ◌/◌, ◌%◌, ◌<◌, ◌≤◌, true, false, not, ◌||◌, List, ◌≡◌, length, ltb, eqb}
+use Rattle.std.specs.Prelude.{ℕ, ◌*◌, ◌/◌, ◌%◌, ◌<◌, ◌≤◌, true, false, not, ◌||◌, List, ◌≡◌, length, ltb, eqb}
 use Rattle.std.proofs.Common.{arith, ap, ltb-true, ltb-false, le-ltb, eqb-true, eq-eqb, ne_eqb}
 use Rattle.std.proofs.lemmas.Bool.{eqb-false, not-false}
 use Rattle.words.specs.Bools.{or_false}

@@ -3,11 +3,11 @@
 use Prim.Native.Nat.{ℕ, ◌/◌, ◌<◌, ◌≤◌}
 use Rattle.std.proofs.Common.{arith, sym, ap, ◌∙◌, inl, inr}
 use Rattle.std.proofs.Math.Bool.{Bool, true}
-use Rattle.std.specs.Prelude.{false, not, ◌||◌, List, ◌≡◌, length, get_or, ltb, leb, eqb}
+use Rattle.std.specs.Prelude.{false, not, ◌||◌, List, ◌≡◌, length, ltb, leb, eqb}
 use Rattle.std.proofs.lemmas.Bool.{false≢true}
 use Rattle.std.proofs.Math.Path.{refl}
 use borrow.Author.Tests.{ltb-true, lt-ltb, leb-true, le-leb, eqb-true, eq-eqb, ne_eqb}
-use Rattle.words.specs.Bools.{bit, both, both_true, same_test, or_true, or_right}
+use Rattle.words.specs.Bools.{bit, both_true, same_test, or_true, or_right}
 use Rattle.words.specs.Below.{any_below}
 use Rattle.words.specs.BelowLaws.{any_make, any_at, any_cong, count_nth, count_sub}
 use Rattle.steps.specs.Model.{Steps, line, stores_to, made, arrives, rule01, is_settled, settles_in, settled}
@@ -20,10 +20,10 @@ use Rattle.steps.proofs.LastFence.{in_reach, settled_reach, fence_below}
 use Rattle.steps.proofs.Rules.{lawful01, lines_in_lines}
 use Rattle.steps.specs.Encoding.{step_at}
 use Rattle.machine.specs.Taking.{arrived, outside, bad_arrivals}
-use Rattle.machine.specs.Fits.{Passed, Taken}
+use Rattle.machine.specs.Fits.{Passed}
 use Rattle.machine.proofs.Fits.{line_inside}
-use Rattle.machine.specs.Tables.{Zero, Tally, Backs}
-use Rattle.machine.specs.Lost.{Ready, above_by, is_above, is_lost, lost, lost_at, lost_by}
+use Rattle.machine.specs.Tables.{Tally, Backs}
+use Rattle.machine.specs.Lost.{above_by, is_above, is_lost, lost, lost_at, lost_by}
 
 marked_bit : (b : Bool) → not (eqb (bit b) 0) ≡ b
 marked_bit true = refl

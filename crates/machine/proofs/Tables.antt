@@ -1,6 +1,6 @@
 -- Tables with a number for each line, as code keeps them while it takes the steps: the stores made to a line so far, and
 -- whether it had a write-back. So each step costs the same, however many there are.
-use Rattle.std.specs.Prelude.{ℕ, zero, suc, ◌+◌, ◌<◌, ◌≤◌, List, ◌≡◌, refl, set, replicate, eqb}
+use Rattle.std.specs.Prelude.{ℕ, zero, suc, ◌+◌, ◌<◌, List, ◌≡◌, refl, replicate, eqb}
 use Rattle.std.proofs.Common.{add-one, arith, ◌∙◌, get_or-set_same, get_or-set_other}
 use Rattle.std.proofs.Math.Decide.{dec_lt, ℕ_discrete}
 use Rattle.std.proofs.Math.Path.{sym, ap}

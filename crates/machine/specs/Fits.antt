@@ -1,18 +1,10 @@
 -- What a call knows that has passed the refusals 1 and 7: its steps' stores are inside the image, which has z bytes.
-use Rattle.std.specs.Prelude.{ℕ, ◌+◌, ◌*◌, ◌/◌, ◌%◌, ◌<◌, ◌≤◌, true, false, not, ◌||◌, List, ◌≡◌, length, ltb, eqb}
-use Rattle.std.proofs.Common.{arith, ap, ltb-true, ltb-false, le-ltb, eqb-true, eq-eqb, ne_eqb}
-use Rattle.std.proofs.lemmas.Bool.{eqb-false, not-false}
-use Rattle.words.specs.Bools.{or_false}
-use Rattle.words.specs.Below.{any_below}
-use Rattle.words.specs.BelowLaws.{any_none, none_make}
+use Rattle.std.specs.Prelude.{ℕ, ◌+◌, ◌*◌, ◌%◌, ◌<◌, ◌≤◌, true, List, ◌≡◌, length}
 use Rattle.steps.specs.Model.{line}
 use Rattle.steps.specs.Settling.{EachStore}
 use Rattle.steps.specs.declared.Step.{Step}
 use Rattle.steps.specs.declared.Step.TheVariants.{Store as store, WriteBack as write_back, Fence as fence}
-use Rattle.steps.specs.Encoding.{in_image, step_at, formed_at}
-use Rattle.steps.proofs.EncodingLaws.{pair_of}
-use Rattle.steps.specs.Refusals.{bad_image}
-use Rattle.machine.specs.Taking.{malformed, bad_list}
+use Rattle.steps.specs.Encoding.{step_at, formed_at}
 
 abbrev pub Fits : ℕ → Step → Type 0
 Fits z (store p v) = 8 * p + 8 ≤ z

@@ -1,27 +1,18 @@
 -- Refusal 10 as code finds it: the arrivals above the made stores by one pass over the arrivals, and those below the
 -- settled ones by one over the steps before the last fence, where a store is settled if its line had a write-back.
-use Prim.Native.Nat.{ℕ, ◌/◌, ◌<◌, ◌≤◌}
-use Rattle.std.proofs.Common.{arith, sym, ap, ◌∙◌, inl, inr}
-use Rattle.std.proofs.Math.Bool.{Bool, true}
-use Rattle.std.specs.Prelude.{false, not, ◌||◌, List, ◌≡◌, length, get_or, ltb, leb, eqb}
-use Rattle.std.proofs.lemmas.Bool.{false≢true}
-use Rattle.std.proofs.Math.Path.{refl}
-use borrow.Author.Tests.{ltb-true, lt-ltb, leb-true, le-leb, eqb-true, eq-eqb, ne_eqb}
-use Rattle.words.specs.Bools.{bit, both, both_true, same_test, or_true, or_right}
+use Prim.Native.Nat.{ℕ, ◌≤◌}
+use Rattle.std.proofs.Math.Bool.{Bool}
+use Rattle.std.specs.Prelude.{false, not, List, length, get_or, ltb, leb, eqb}
+use Rattle.words.specs.Bools.{both}
 use Rattle.words.specs.Below.{any_below}
-use Rattle.words.specs.BelowLaws.{any_make, any_at, any_cong, count_nth, count_sub}
-use Rattle.steps.specs.Model.{Steps, line, stores_to, made, arrives, rule01, is_settled, settles_in, settled}
+use Rattle.steps.specs.Model.{Steps, line, made}
 use Rattle.steps.specs.declared.Step.{Step}
 use Rattle.steps.specs.declared.Step.TheVariants.{Store as store, WriteBack as write_back, Fence as fence}
-use Rattle.steps.specs.Settling.{EachStore}
-use Rattle.steps.proofs.Settling.{test_settled, settled_stores, settled_counts}
 use Rattle.steps.specs.LastFence.{last_fence, had_back}
-use Rattle.steps.proofs.LastFence.{in_reach, settled_reach, fence_below}
-use Rattle.steps.proofs.Rules.{lawful01, lines_in_lines}
 use Rattle.steps.specs.Encoding.{step_at}
-use Rattle.machine.specs.Taking.{arrived, outside, bad_arrivals}
-use Rattle.machine.specs.Fits.{Passed, Taken}
-use Rattle.machine.specs.Tables.{Zero, Tally, Backs}
+use Rattle.machine.specs.Taking.{arrived}
+use Rattle.machine.specs.Fits.{Taken}
+use Rattle.machine.specs.Tables.{Zero}
 
 -- more stores of the line arrived than were made
 abbrev pub is_above : List ℕ → ℕ → List ℕ → ℕ → Bool

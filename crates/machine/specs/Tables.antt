@@ -1,15 +1,9 @@
 -- Tables with a number for each line, as code keeps them while it takes the steps: the stores made to a line so far, and
 -- whether it had a write-back. So each step costs the same, however many there are.
-use Rattle.std.specs.Prelude.{ℕ, zero, suc, ◌+◌, ◌<◌, ◌≤◌, List, ◌≡◌, refl, set, replicate, eqb}
-use Rattle.std.proofs.Common.{add-one, arith, ◌∙◌, get_or-set_same, get_or-set_other}
-use Rattle.std.proofs.Math.Decide.{dec_lt, ℕ_discrete}
-use Rattle.std.proofs.Math.Path.{sym, ap}
-use Rattle.std.proofs.Math.ListN.{length, get_or, length-set, get_or-eq_default}
-use borrow.Author.Tests.{eq-eqb, ne_eqb}
-use Rattle.words.specs.Bools.{bit, or_right, or_none}
-use Rattle.words.specs.Below.{any_below, count_below}
-use Rattle.words.specs.BelowLaws.{count_most}
-use Rattle.steps.specs.Model.{Steps, line, stores_to, made}
+use Rattle.std.specs.Prelude.{ℕ, ◌+◌, ◌<◌, ◌≤◌, List, ◌≡◌, set}
+use Rattle.std.proofs.Math.ListN.{length, get_or}
+use Rattle.words.specs.Bools.{bit}
+use Rattle.steps.specs.Model.{Steps, line, made}
 use Rattle.steps.specs.LastFence.{had_back}
 use Rattle.steps.specs.declared.Step.{Step}
 use Rattle.steps.specs.declared.Step.TheVariants.{Store as store, WriteBack as write_back, Fence as fence}

@@ -1,5 +1,5 @@
 -- A list prints every entry: 4 blocks hold at most 56, which is the room that listing is lent.
-use Rattle.std.specs.Prelude.{◌≡◌, refl, Bool, ℕ, zero, suc, ◌+◌, ◌*◌, ◌≤◌, eqb, length, get_or, take, replicate}
+use Rattle.std.specs.Prelude.{◌≡◌, refl, Bool, ℕ, zero, suc, ◌*◌, ◌≤◌, eqb, length, get_or, take, replicate}
 use Rattle.std.proofs.Math.Path.{ap}
 use Rattle.std.proofs.Common.{◌∙◌, arith, le-leb, length-append, take_all}
 use Rattle.std.proofs.Math.Bool.{true, false, cond}

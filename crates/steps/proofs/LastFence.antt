@@ -1,9 +1,8 @@
 -- The settled stores under document 01's rule, as code finds them: with F the last fence taken, the stores before F to a
 -- line that had a write-back before F.
-use Rattle.std.specs.Prelude.{ℕ, zero, suc, ◌<◌, ◌≤◌, Bool, true, cond, ◌≡◌, refl, ltb}
+use Rattle.std.specs.Prelude.{ℕ, zero, suc, ◌<◌, ◌≤◌, true, cond, ◌≡◌, refl, ltb}
 use Rattle.std.proofs.Common.{arith, ltb-true, lt-ltb, eq-eqb}
 use Rattle.words.specs.Bools.{by_test, same_test}
-use Rattle.words.specs.Below.{any_below}
 use Rattle.words.specs.BelowLaws.{any_make, any_at}
 use Rattle.steps.proofs.Indices.{grow}
 use Rattle.steps.specs.Model.{Step, store, write_back, fence, Steps, writes_back, rule01, is_settled}

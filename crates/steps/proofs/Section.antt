@@ -5,9 +5,9 @@ use Rattle.std.proofs.Common.{arith, sym, ap, ◌∙◌, inl, inr, ltb-true, lt-
 use Rattle.std.proofs.Math.Decide.{dec_lt, ℕ_discrete}
 use Rattle.words.specs.Bools.{by_test}
 use Rattle.steps.proofs.Indices.{grow}
-use Rattle.steps.specs.Model.{Step, store, write_back, fence, Steps, line, made, land, arrives, run, cut}
+use Rattle.steps.specs.Model.{Step, store, write_back, fence, Steps, made, land, arrives, run, cut}
 use Rattle.steps.specs.Model.{Rule, Permitted}
-use Rattle.steps.specs.Settling.{EachStore, Settled, AllSettled}
+use Rattle.steps.specs.Settling.{EachStore}
 use Rattle.steps.proofs.Settling.{Arrives, Lawful, InLines}
 use Rattle.steps.proofs.Settling.{settled_mono, made_le, made_store, permitted_arrives}
 use Rattle.steps.specs.Section.{Section}

@@ -11,7 +11,7 @@ use Rattle.words.specs.Below.{any_below, count_below}
 use Rattle.words.specs.BelowLaws.{any_make, any_at, count_le, count_nth, count_cong, count_sub}
 use Rattle.steps.specs.Model.{Step, store, write_back, fence, Steps, line, stores_to, writes_back, is_fence, made}
 use Rattle.steps.specs.Model.{Rule, is_settled, settles_in, settled, Permitted}
-use Rattle.steps.specs.Settling.{AllSettled, EachStore, Settled}
+use Rattle.steps.specs.Settling.{EachStore, Settled}
 
 -- the store at i, to the place p, is one of those that arrive
 abbrev pub Arrives : (ℕ → ℕ) → Steps → (ℕ → ℕ) → ℕ → ℕ → Type 0

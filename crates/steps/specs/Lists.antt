@@ -1,11 +1,6 @@
 -- Lists of steps: what holds of each step, where an index of two joined lists falls, and what a whole list leaves.
-use Rattle.std.specs.Prelude.{ℕ, zero, suc, ◌+◌, ◌<◌, Bool, true, List, [], ◌∷◌, ◌++◌, ◌≡◌, refl, length}
-use Rattle.std.proofs.Common.{arith, sym, ap, ap₂, ◌∙◌, get_or-append-add}
-use Rattle.std.proofs.Math.ListN.{get_or-append}
-use Rattle.words.specs.Below.{count_below}
-use Rattle.words.specs.BelowLaws.{count_from, count_cong}
-use Rattle.steps.specs.Model.{Step, store, write_back, fence, land, run}
-use Rattle.steps.specs.Encoding.{steps_of}
+use Rattle.std.specs.Prelude.{ℕ, true, List, [], ◌∷◌}
+use Rattle.steps.specs.Model.{Step, land}
 
 -- every step of a list; of a step, if it is a store, its place and value
 abbrev pub Each : (Step → Type 0) → List Step → Type 0

@@ -1,7 +1,6 @@
 -- Refusals as data. To be believed: document 01's table and its "Order".
 -- A call's refusals are a list of numbers, each with the condition under which it is "given exactly", in document 01's order.
-use Rattle.std.specs.Prelude.{ℕ, ◌%◌, ◌<◌, Bool, true, false, cond, not, ◌||◌, List, [], ◌∷◌, ◌≡◌, refl, ltb, eqb}
-use Rattle.std.proofs.Common.{arith, ap}
+use Rattle.std.specs.Prelude.{ℕ, ◌%◌, Bool, cond, not, ◌||◌, List, [], ◌∷◌, ltb, eqb}
 
 -- The answer is the first number whose condition holds. "An accepted call answers 0."
 abbrev pub answer : List (ℕ × Bool) → ℕ

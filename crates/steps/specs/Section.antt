@@ -1,11 +1,8 @@
 -- THE SECTION THEOREM. A section is a run of steps whose last store decides: what a cut of it leaves is as before, in all
 -- that is used, or is what the whole section leaves. (Source 001, Definition 2.1 and Theorem 2.1.)
-use Rattle.std.specs.Prelude.{ℕ, zero, suc, ◌<◌, ◌≤◌, Bool, true, cond, ◌≡◌, refl, ◌⊎◌, ltb}
-use Rattle.std.proofs.Common.{arith, sym, ap, ◌∙◌, inl, inr, ltb-true, lt-ltb}
-use Rattle.std.proofs.Math.Decide.{dec_lt, ℕ_discrete}
-use Rattle.words.specs.Bools.{by_test}
-use Rattle.steps.specs.Model.{Step, store, write_back, fence, Steps, line, made, land, arrives, run, cut}
-use Rattle.steps.specs.Model.{Rule, Permitted}
+use Rattle.std.specs.Prelude.{ℕ, ◌<◌, ◌≤◌, ◌≡◌}
+use Rattle.steps.specs.Model.{store, Steps, line}
+use Rattle.steps.specs.Model.{Rule}
 use Rattle.steps.specs.Settling.{EachStore, Settled, AllSettled}
 
 -- The steps below N are a section. Its last store is the switch. The stores before it are unused ones, of a place and a

@@ -1,16 +1,9 @@
 -- What is settled, as a proof handles it: with the write-back and the fence that settle a store. And: the settled stores
 -- of a unit are its first ones, so one number per unit says which they are, and "between settled and made" is what a
 -- cut permits.
-use Rattle.std.specs.Prelude.{ℕ, suc, ◌+◌, ◌<◌, ◌≤◌, Bool, true, ◌≡◌, refl, eqb}
-use Rattle.std.proofs.Common.{arith, sym, ap, ◌∙◌}
-use Rattle.std.proofs.Math.Decide.{dec_le}
-use Rattle.std.proofs.lemmas.Bool.{false≢true}
-use borrow.Author.Tests.{eqb-true, eq-eqb}
-use Rattle.words.specs.Bools.{both, both_true, by_test}
-use Rattle.words.specs.Below.{any_below, count_below}
-use Rattle.words.specs.BelowLaws.{any_make, any_at, count_le, count_nth, count_cong, count_sub}
-use Rattle.steps.specs.Model.{Step, store, write_back, fence, Steps, line, stores_to, writes_back, is_fence, made}
-use Rattle.steps.specs.Model.{Rule, is_settled, settles_in, settled, Permitted}
+use Rattle.std.specs.Prelude.{ℕ, ◌<◌, true, ◌≡◌}
+use Rattle.steps.specs.Model.{store, write_back, fence, Steps, line}
+use Rattle.steps.specs.Model.{Rule}
 
 -- of each store of the first n steps: its index, its place and its value
 abbrev pub EachStore : Steps → ℕ → (ℕ → ℕ → ℕ → Type 0) → Type 0

@@ -1,15 +1,7 @@
 -- Shapes of lists that are sections: stores to one line with its write-back and a fence, and before them stores to other
 -- lines with theirs. And: two lists in a row, the first of them settled.
-use Rattle.std.specs.Prelude.{ℕ, suc, ◌+◌, ◌<◌, ◌≤◌, List, [], ◌∷◌, ◌++◌, ◌≡◌, ◌⊎◌, length}
-use Rattle.std.proofs.Common.{arith, sym, ap, ◌∙◌, inl, inr}
-use Rattle.std.proofs.Math.Decide.{dec_lt, dec_le, ℕ_discrete}
-use Rattle.std.proofs.Math.Path.{fun_ext}
-use Rattle.std.proofs.Math.Seq.{get_or-append_seam}
-use Rattle.steps.specs.Model.{Step, store, write_back, fence, Steps, line, run, Rule}
-use Rattle.steps.specs.Settling.{EachStore, Settled, AllSettled}
-use Rattle.steps.specs.Section.{Section}
-use Rattle.steps.specs.Encoding.{steps_of}
-use Rattle.steps.specs.Lists.{Each}
+use Rattle.std.specs.Prelude.{ℕ, List, [], ◌∷◌, ◌++◌}
+use Rattle.steps.specs.Model.{Step, store, write_back, fence, line}
 
 -- the switch, its line's write-back, a fence
 abbrev pub one_store : ℕ → ℕ → List Step

@@ -1,6 +1,5 @@
 -- Words stored in a row.
-use Rattle.std.specs.Prelude.{ℕ, suc, List, [], ◌∷◌, ◌≡◌, refl, length}
-use Rattle.std.proofs.Common.{ap}
+use Rattle.std.specs.Prelude.{ℕ, suc, List, [], ◌∷◌}
 use Rattle.steps.specs.Model.{Step, store}
 
 -- the words vs stored from the place q on

@@ -1,13 +1,11 @@
 -- "7W ≤ 20I + 7(D + R) + 42C" is not loose: a run, computed, whose slack stays 161 however often power is lost in it. Two blocks,
 -- 14 puts that fill block 0 with 17 line writes; then the put that would split it is cut again and again behind its sixth
 -- write-back, with the store of the switch not arrived. Each cut call costs 42 sevenths, and the image is the same after each.
-use Rattle.std.specs.Prelude.{◌≡◌, refl, List, [], ◌∷◌, ℕ, zero, suc, ◌+◌, ◌*◌, ◌≤◌, replicate}
-use Rattle.std.proofs.Common.{subst, arith}
+use Rattle.std.specs.Prelude.{◌≡◌, List, [], ◌∷◌, ℕ, zero, suc, ◌+◌, ◌≤◌, replicate}
 use Rattle.machine.specs.Taking.{cut_of}
 use Rattle.writing.specs.Writing.{Outcome}
 use Rattle.demands.specs.Demand2.{put, answered}
-use Rattle.demands.specs.Demand3.{ran, taken, Run, blank, whole, cut}
-use Rattle.demands.specs.Computing.{computing}
+use Rattle.demands.specs.Demand3.{ran, taken}
 
 abbrev pub list : List ℕ
 list = replicate 112 0

@@ -1,5 +1,5 @@
 -- What the state of a walk says of the leaves passed, xs: they are the chain so far, and the notes are theirs.
-use Rattle.std.specs.Prelude.{◌≡◌, refl, Bool, true, false, cond, not, List, [], ◌∷◌, ◌++◌, ◌≢◌, ℕ, ◌+◌, ◌≤◌, ◌<◌, eqb, length}
+use Rattle.std.specs.Prelude.{◌≡◌, refl, Bool, true, false, cond, not, List, [], ◌∷◌, ◌++◌, ◌≢◌, ℕ, ◌+◌, ◌≤◌, ◌<◌, eqb}
 use Rattle.std.proofs.Common.{sym, ap, ap₂, ◌∙◌, append_assoc, inl, inr, arith, eq-eqb, ne_eqb, eqb-true, length-append}
 use Rattle.std.proofs.Math.Decide.{ℕ_discrete}
 use Rattle.std.proofs.lemmas.Bool.{eqb-false, not-false}
@@ -16,12 +16,10 @@ use Rattle.image.specs.Chain.{All, Has}
 use Rattle.image.proofs.ChainLaws.{all_join, all_map, all_split, has_split, has_left, has_right}
 use Rattle.image.proofs.CountLaws.{count_filled}
 use Rattle.image.specs.Potential.{entries, sum_of}
-use Rattle.image.specs.Target.{Reaches}
-use Rattle.image.specs.Walk.{Walked}
 use Rattle.image.proofs.Walk.{Stands, walk_on}
 use Rattle.verdict.specs.Passed.{Passed}
 use Rattle.verdict.specs.Place.{reaches_to, target_from, before_from}
-use Rattle.verdict.specs.Notes.{Aim, Notes, here, last_of, last_or, nowhere}
+use Rattle.verdict.specs.Notes.{Aim, Notes, here, last_or, nowhere}
 
 -- ---- lists with one more
 

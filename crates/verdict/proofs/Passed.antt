@@ -1,5 +1,5 @@
 -- A leaf in which no fault is found, and one in which none is.
-use Rattle.std.specs.Prelude.{◌≡◌, refl, Bool, true, false, not, ℕ, ◌≤◌, ◌<◌, leb, eqb}
+use Rattle.std.specs.Prelude.{◌≡◌, refl, Bool, true, false, not, ℕ, ◌≤◌, leb, eqb}
 use Rattle.std.proofs.Common.{arith, leb-false, eqb-true, eq-eqb}
 use Rattle.std.proofs.lemmas.Bool.{lt-leb}
 use Rattle.words.specs.Below.{count_below}

@@ -1,26 +1,12 @@
 -- What the state of a walk says of the leaves passed, xs: they are the chain so far, and the notes are theirs.
-use Rattle.std.specs.Prelude.{◌≡◌, refl, Bool, true, false, cond, not, List, [], ◌∷◌, ◌++◌, ◌≢◌, ℕ, ◌+◌, ◌≤◌, ◌<◌, eqb, length}
-use Rattle.std.proofs.Common.{sym, ap, ap₂, ◌∙◌, append_assoc, inl, inr, arith, eq-eqb, ne_eqb, eqb-true, length-append}
-use Rattle.std.proofs.Math.Decide.{ℕ_discrete}
-use Rattle.std.proofs.lemmas.Bool.{eqb-false, not-false}
-use Rattle.words.specs.Update.{upd, upd_same, upd_other}
-use Rattle.words.specs.Bools.{both, both_none, by_test, differ}
-use Rattle.words.specs.Below.{count_below}
-use Rattle.words.specs.BelowLaws.{count_none}
-use Rattle.leaf.specs.Leaf.{Leaf, Taken, In}
-use Rattle.leaf.specs.Search.{count}
-use Rattle.leaf.specs.Tally.{at_most, most_to}
-use Rattle.leaf.proofs.TallyLaws.{tally_right, right_prints, right_twins, none_at_most, all_above, some_at_most, most_above, most_is}
-use Rattle.survey.specs.Walk.{State, again_by, moved}
+use Rattle.std.specs.Prelude.{◌≡◌, true, List, [], ◌∷◌, ◌++◌, ◌≢◌, ℕ, ◌≤◌, ◌<◌, length}
+use Rattle.leaf.specs.Leaf.{Leaf}
+use Rattle.survey.specs.Walk.{State}
 use Rattle.image.specs.Chain.{All, Has}
-use Rattle.image.proofs.ChainLaws.{all_join, all_map, all_split, has_split, has_left, has_right}
-use Rattle.image.proofs.CountLaws.{count_filled}
-use Rattle.image.specs.Potential.{entries, sum_of}
+use Rattle.image.specs.Potential.{entries}
 use Rattle.image.specs.Target.{Reaches}
 use Rattle.image.specs.Walk.{Walked}
-use Rattle.image.proofs.Walk.{Stands, walk_on}
-use Rattle.verdict.specs.Passed.{Passed}
-use Rattle.verdict.specs.Place.{reaches_to, target_from, before_from}
+use Rattle.verdict.specs.Place.{target_from, before_from}
 
 -- the last of a list, or p where it is empty: "the leaf before" of block 0 is never asked
 abbrev pub last_or : ℕ → List ℕ → ℕ

@@ -1,12 +1,10 @@
 -- A leaf in which no fault is found, and one in which none is.
-use Rattle.std.specs.Prelude.{◌≡◌, refl, Bool, true, false, not, ℕ, ◌≤◌, ◌<◌, leb, eqb}
-use Rattle.std.proofs.Common.{arith, leb-false, eqb-true, eq-eqb}
-use Rattle.std.proofs.lemmas.Bool.{lt-leb}
+use Rattle.std.specs.Prelude.{◌≡◌, false, ℕ, ◌<◌}
 use Rattle.words.specs.Below.{count_below}
 use Rattle.leaf.specs.Leaf.{Leaf}
 use Rattle.leaf.specs.Search.{count}
 use Rattle.leaf.specs.Tally.{wrong_at, at_most, twins}
-use Rattle.survey.specs.Walk.{State, first_fault, again_by, bare_by, low_by, fault_of}
+use Rattle.survey.specs.Walk.{State, again_by, bare_by, low_by}
 
 -- what the seven tests ask
 pub record Passed (L : Leaf) (N : ℕ) (st : State) : Type 0 where

@@ -22,8 +22,7 @@ use Rattle.index.proofs.SoundTest.{survey_sound, says_yes, says_no, sound_chain}
 use Rattle.index.proofs.FindLaws.{noted_lookup}
 use Rattle.lists.specs.Lists.{word_place, val_place, sib_place, low_word, head_in, set_list, unlink_list, clear_list, is_alone, del_list}
 use Rattle.writing.specs.Writing.{target_of, before_of, place_of, Outcome, outcome, made_as, short_list, change_table, at_slot}
-use Rattle.writing.specs.declared.Made.{Made}
-use Rattle.writing.specs.declared.Made.TheVariants.{Steps, BadImage, ShortList, Unsound, Absent}
+use Rattle.writing.specs.declared.Made.TheVariants.{BadImage, ShortList, Unsound}
 use Rattle.writing.specs.ChangeLaws.{by_slot, three_steps}
 
 -- what the survey of a sound image noted

@@ -25,12 +25,12 @@ use Rattle.image.specs.Answers.{value_at}
 use Rattle.image.specs.Image.{blocks, leaves}
 use Rattle.index.specs.Reading.{entries_in, is_none}
 use Rattle.index.proofs.SoundTest.{Surveyed, survey_sound, sound_chain, noted_around}
-use Rattle.lists.specs.Lists.{head_in, put_at}
-use Rattle.lists.specs.FullLists.{full_put, put_into, put_list}
-use Rattle.writing.specs.Writing.{target_of, place_of, is_among, free_of, Outcome, outcome, made_as, is_missing}
+use Rattle.lists.specs.Lists.{head_in}
+use Rattle.lists.specs.FullLists.{put_into, put_list}
+use Rattle.writing.specs.Writing.{target_of, place_of, is_among, free_of, outcome, made_as, is_missing}
 use Rattle.writing.specs.Writing.{is_full, block_or0, put_of}
 use Rattle.writing.proofs.ChangeLaws.{noted_value, bad_image_lem, short_list_lem, unsound, accepted}
-use Rattle.writing.specs.declared.Made.TheVariants.{BadImage, ShortList, Unsound, Present, Full}
+use Rattle.writing.specs.declared.Made.TheVariants.{BadImage, ShortList, Unsound}
 use Rattle.writing.specs.PutLaws.{put_by}
 
 -- ---- the lowest free block

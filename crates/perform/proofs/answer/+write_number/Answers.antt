@@ -1,5 +1,5 @@
 -- `perform::answer::write_number` meets its contract: the last digit of n stands behind those of n / 10. The measure is n.
-use Rattle.std.proofs.Common.{◌≡◌, ℕ, ◌+◌, ◌%◌, ◌<◌, ◌≤◌, List, arith}
+use Rattle.std.proofs.Common.{ℕ, ◌+◌, ◌%◌, ◌<◌, ◌≤◌, List, arith}
 use Rattle.std.proofs.Math.Path.{ap₂, ◌∙◌}
 use Rattle.std.proofs.Math.ListN.{set}
 use Rattle.perform.specs.Printing.{length_small, length_more, sets_small, sets_more}
