@@ -1,3 +1,3 @@
--- To believe: Spelling. Reading has the shape of the code; Exact and Lines say what Reading means.
+-- To believe: Spelling. Reading has the shape of the code; proofs/Exact and proofs/Lines say what Reading means.
 pub mod Spelling
 pub mod Reading

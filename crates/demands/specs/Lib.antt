@@ -1,5 +1,5 @@
--- The demands. To believe: Calls, Conditions, Holds, and of each other file what stands above its theorem. Sentences, Free,
--- Accepted and Carried join the calls' contracts with what the crates below prove.
+-- The demands. To believe: Calls, UniqueOutside, Conditions, Demand1, Holds, Demand2, Demand3, Alike and Cases; the theorems stand in
+-- proofs/ under the same names. Sentences, Accepted and Carried join the calls' contracts with what the crates below prove.
 pub mod Calls
 pub mod Unique
 pub mod UniqueOutside

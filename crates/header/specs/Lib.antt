@@ -1,4 +1,4 @@
--- To believe: Fields, Header. Proved of them: FieldLaws, Lowest, Xor, HeaderCode (what the code computes is what they say), HeaderLaws.
+-- To believe: Fields, Header. Lowest and HeaderCode say what a search for a bit tells.
 pub mod Fields
 pub mod Lowest
 pub mod Header

@@ -109,7 +109,7 @@ module _ (l : List ℕ) (z : Blank l) where
   blank_image h = record { chain = 0 ∷ []; sound = blank_sound h }
 
   pub blank_empty : (k v : ℕ) → Has (leaves l) (0 ∷ []) k v → ⊥
-  blank_empty k v (mathlib.Core.Logic.inr x') = elim x' [ ]
+  blank_empty k v (inr x') = elim x' [ ]
   blank_empty k v (inl i) = blank_vacant 0 i.at i.taken
 
   pub blank_list : 0 < blocks l → list_of (leaves l) (0 ∷ []) ≡ []

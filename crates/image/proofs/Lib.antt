@@ -1,25 +1,29 @@
-pub mod Answers
-pub mod Blocks
-pub mod Calls
-pub mod ChainLaws
-pub mod ChainSize
-pub mod Changes
+-- Of maps and of one leaf: its edits, its count, its entries in rising order, the leaf parted in two.
+pub mod MapLaws
+pub mod ListLaws
+pub mod Same
+pub mod Edits
 pub mod CountLaws
 pub mod EditMaps
-pub mod Edits
-pub mod Entries
-pub mod ImageLaws
-pub mod KeptLaws
-pub mod ListLaws
-pub mod MapLaws
 pub mod Order
 pub mod Parting
-pub mod PotentialLaws
-pub mod Same
-pub mod Stored
+-- Of chains: parts, one stretch replaced by another, one chain and its length, the walk along it, targets, the rising
+-- list.
+pub mod ChainLaws
 pub mod Stretch
-pub mod TargetLaws
+pub mod ChainSize
 pub mod Walk
-pub mod WordCalls
+pub mod TargetLaws
+pub mod Entries
+pub mod Changes
+pub mod Calls
+pub mod PotentialLaws
+-- Of words and bytes: stores as edits, kept and alike images, the image after each call's stores, the calls' answers.
+pub mod KeptLaws
+pub mod ImageLaws
+pub mod Blocks
+pub mod Stored
 pub mod WordMoves
 pub mod WordSplit
+pub mod WordCalls
+pub mod Answers

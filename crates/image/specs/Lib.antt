@@ -8,12 +8,9 @@ pub mod Image
 pub mod Kept
 pub mod Potential
 pub mod Copies
--- Proved of maps and of one leaf: its edits, its count, its entries in rising order, the leaf parted in two.
+-- A leaf's slots and a chain's entries in rising order, a leaf of a sound chain, the walk along it, the value of a slot.
 pub mod Order
--- Of chains: parts, one stretch replaced by another, one chain and its length, the walk along it, targets, the rising
--- list.
 pub mod ChainLaws
 pub mod Walk
 pub mod Entries
--- Of words and bytes: stores as edits, kept and alike images, the image after each call's stores, the calls' answers.
 pub mod Answers

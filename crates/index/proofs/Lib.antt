@@ -1,3 +1,5 @@
+-- Proved of specs/: SoundTest (refusal 3 is image's `SoundImage`), Agreement (with the map), AlikeReading and BlankReading. The
+-- others serve the proofs of the calls.
 pub mod Agreement
 pub mod AlikeReading
 pub mod Along

@@ -1,5 +1,4 @@
--- To believe: Reading (what find, listing and recovery answer). Proved of it: SoundTest (refusal 3 is image's `SoundImage`),
--- Agreement (with the map), AlikeReading and BlankReading. The others serve the proofs of the calls.
+-- To believe: Reading (what find, listing and recovery answer), and Agreement's `found_in`. The others say what the calls' parts do.
 pub mod Reading
 pub mod FindLaws
 pub mod Filling

@@ -1,3 +1,4 @@
+-- Proved of specs/: what a cut can leave (Section), what is settled, the lists' shapes, and cases of the memory model.
 pub mod Cases
 pub mod Concatenation
 pub mod EncodingLaws

@@ -1,2 +1,2 @@
--- To believe: of Tight the two theorems at its end, over the runs of demands/specs/Demand3.
+-- A run of calls, over the runs of demands/specs/Demand3, for which demand 3 is not loose: proofs/Tight has the two theorems.
 pub mod Tight

@@ -1,4 +1,4 @@
--- The survey says "sound" exactly when the image is, and its notes are right.
+-- What the survey's tests ask of a leaf, the target as a function, and what its notes say.
 pub mod Passed
 pub mod Place
 pub mod Notes

@@ -1,3 +1,4 @@
+-- Proved of specs/, for the calls' proofs.
 pub mod BlockLaws
 pub mod ChangeLaws
 pub mod FullLaws
