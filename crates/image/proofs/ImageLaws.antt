@@ -1,7 +1,7 @@
 -- Images of bytes: their size, the blank one, and that alike images agree in all that is used.
 use Rattle.std.specs.Prelude.{◌≡◌, refl, Bool, true, false, not, ◌||◌, List, [], ◌∷◌, ℕ, ◌+◌, ◌-◌, ◌*◌, ◌/◌, ◌%◌, ◌≤◌, ◌<◌, ltb, eqb, replicate, length}
 use Rattle.std.proofs.Math.Path.{sym, ap, fun_ext}
-use Rattle.std.proofs.Common.{◌∙◌, inl, ltb-false, eqb-true, ne_eqb, eq-eqb, le-ltb}
+use Rattle.std.proofs.Common.{inr, ◌∙◌, inl, ltb-false, eqb-true, ne_eqb, eq-eqb, le-ltb}
 use Rattle.std.proofs.Math.Nat.{mul-zero}
 use Rattle.std.proofs.Math.Decide.{dec_lt}
 use native.Mathlib.Omega.{arith}
