@@ -1,11 +1,11 @@
-// "A reader holds the input and its place in it": thin functions over those that take a slice and a number. Each function
-// here is proved by hand; who calls `read_field` or `read_line`, whose parameters are plain, needs no proof of that kind.
+// "A reader holds the input and its place in it": thin functions over those that take a slice and a number. `read_field` and
+// `read_line` have plain parameters.
 ghost use Rattle.std.specs.Prelude.{◌≡◌};
 ghost use Rattle.command.specs.Reading.{field_at, line_at};
 
 use crate::{Field, Next, field_at, line_at};
 
-#[derive(Drop)]
+#[derive(Clone, Copy)]
 pub struct Reader<'a> {
     pub src: &'a [u8],
     pub at: usize,
