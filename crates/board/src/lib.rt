@@ -1,5 +1,5 @@
-// The library that firmware links: one thin function for each call, with the C interface of include/stringhut.h. Each promises
-// what the call below it does.
+// The calls of the C interface (include/stringhut.h), one thin function each, told in numbers. Each promises what the call below it
+// does; `board_c` exports them.
 #![tactic(auto)]
 
 pub mod making;

@@ -1,6 +1,8 @@
 // The C library: the calls of `board` under the names of include/stringhut.h. Each export only calls, and promises what it calls.
 #![tactic(auto)]
 
+mod outside;
+
 ghost use Rattle.std.specs.Prelude.{◌≡◌};
 ghost use Rattle.index.specs.Reading.{told, find_of};
 ghost use Rattle.index.specs.Reading.{counted, listing_is, listing_of};

@@ -1,4 +1,4 @@
-// The C interface.
+// The calls of `board`, which `board_c` exports to C.
 ghost use Rattle.demands.specs.Calls as asked;
 ghost use Rattle.demands.specs.UniqueOutside.{Outside};
 

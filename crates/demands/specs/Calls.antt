@@ -33,8 +33,8 @@ Result (del image list key) = Made × List ℕ
 Result (run image list n) = Ran × List ℕ
 Result (cut image list n arrivals) = Ran × List ℕ
 
--- The contracts, `ensures` for `ensures`, where r is the answer with each `now x.exit` behind it and the names of what was lent
--- stand for `now x.entry`. Of set: `made_as r (now list.exit) ≡ set_of (now image.entry) (now list.entry) key value`.
+-- The contracts, `ensures` for `ensures`, where r is the answer with each `x.new` behind it and the names of what was lent stand for
+-- `x.old`, or for `x.now` where it is only read. Of set: `made_as result list.new ≡ set_of image.now list.old key value`.
 abbrev pub Allowed : (asked : Asked) → Result asked → Type 0
 Allowed (find image key) r = found_as r ≡ find_of image key
 Allowed (listing image from keys values) r = listing_is (listed_as r.0) r.1 r.2 ≡ listing_of image from keys values

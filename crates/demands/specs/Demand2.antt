@@ -4,8 +4,8 @@
 -- the one after."
 --
 -- The steps are document 01's by the calls' contracts (`put_of`, `set_of`, `del_of` write `put_list`, `set_list`, `del_list`). Here is
--- that find and listing answer from the map (`agrees`), and what running and cutting the lists leaves (`demand2`): for every image
--- of bytes, key, value and list, with no hypothesis but that the call was accepted.
+-- what running and cutting the lists is to leave: proofs/Demand2 proves it (`demand2`), and that find and listing answer from the map
+-- (`agrees`), for every image of bytes, key, value and list, with no hypothesis but that the call was accepted.
 use Rattle.std.specs.Prelude.{◌≡◌, List, ◌⊎◌, ℕ, ◌^◌, ◌≤◌, ◌<◌}
 use Rattle.steps.specs.Model.{rule01}
 use Rattle.steps.specs.Settling.{AllSettled}

@@ -1,4 +1,5 @@
--- Refusal 9, "bench program: line malformed", is "given exactly" for a line that spells no command.
+-- What tells the line printed for a malformed line from every other answer: proofs/Malformed has that refusal 9 is "given exactly" for
+-- a line that spells no command.
 use Rattle.std.specs.Prelude.{Bool, List, [], ◌∷◌, ◌≢◌, ℕ, length}
 
 -- a table of other numbers does not answer n

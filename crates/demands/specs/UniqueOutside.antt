@@ -1,4 +1,4 @@
--- The C interface and the bench program: two results that a contract allows are equal, as `Unique` has it for the calls below them.
+-- The contracts of the C interface. proofs/UniqueOutside has that two results that one allows are equal, of the bench program too.
 use Rattle.std.specs.Prelude.{◌≡◌, List, ℕ}
 use Rattle.machine.specs.Taking.{Outcome as Taken, run_of, cut_of}
 use Rattle.index.specs.Reading.{told, find_of, counted, listing_is, listing_of, sizes, recovery_is, recovery_of}
@@ -10,7 +10,8 @@ use Rattle.told.specs.declared.making.HutMade.{HutMade}
 use Rattle.board.specs.Told.{made_is}
 use Rattle.demands.specs.Calls.{Asked, find, listing, recovery, put, set, del, run, cut}
 
--- ---- the contracts of the C interface, as `Calls` has those below: `contracts/src/outside.rt` proves that they are the sources'
+-- ---- the contracts of the C interface, as `Calls` has those below: `contracts/src/outside.rt` proves that they are
+-- `board`'s, and `board_c/src/outside.rt` that they are the exports'
 
 abbrev pub OutsideResult : Asked → Type 0
 OutsideResult (find image key) = HutFound

@@ -1,5 +1,4 @@
--- On a sound image the three calls agree with its map: find gives the value of a key, listing the entries from a key on,
--- strictly rising, and recovery the leaves of the chain.
+-- What find answers of a map: proofs/Agreement has that on a sound image the three calls agree with its map.
 use Rattle.std.specs.Prelude.{ℕ}
 use Rattle.std.proofs.Math.Option.{Option, some, none}
 use Rattle.index.specs.Reading.{Told, told}

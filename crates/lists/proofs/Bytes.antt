@@ -1,5 +1,5 @@
 -- What is promised of a list, in bytes: the image that run and cut leave has as many bytes as before, and its words are
--- those that the promise in words is about. To be believed: the definitions down to the first line of dashes.
+-- those that the promise in words is about: so each list of the calls serves in bytes too.
 use Rattle.std.specs.Prelude.{ℕ, zero, suc, ◌+◌, ◌*◌, ◌/◌, ◌^◌, ◌≤◌, ◌<◌, true, List, [], ◌∷◌, ◌≡◌, refl, length, set}
 use Rattle.std.proofs.Math.Decide.{ℕ_discrete, dec_lt}
 use Rattle.std.proofs.Common.{arith, ap, ◌∙◌, inl, inr, length-set, get_or-set_same, get_or-set_other, lt-ltb}

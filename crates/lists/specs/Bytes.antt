@@ -1,5 +1,5 @@
 -- What is promised of a list, in bytes: the image that run and cut leave has as many bytes as before, and its words are
--- those that the promise in words is about. To be believed: the definitions down to the first line of dashes.
+-- those that the promise in words is about. To be believed.
 use Rattle.std.specs.Prelude.{ℕ, ◌+◌, ◌≤◌, true, List, ◌≡◌, ◌⊎◌, length}
 use Rattle.words.specs.Words.{reads, store_word}
 use Rattle.words.specs.WordLaws.{Bytes}

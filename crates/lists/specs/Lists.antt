@@ -1,7 +1,7 @@
 -- The lists of set, del and the plain put: document 01's section "What each call does", sentence by sentence. To be
 -- believed.
 -- An image is its words, `w`. A place is the number of a word: block b has the words from 32b on and the lines from 4b
--- on. A list is made of sections: `one_store p v` is a store, the write-back of its line and a fence, `one_line_lem t p v`
+-- on. A list is made of sections: `one_store p v` is a store, the write-back of its line and a fence, `one_line t p v`
 -- has the stores t before it, and `two_parts s r t p v` before these the stores s, the write-backs r and a fence.
 use Rattle.std.specs.Prelude.{ℕ, suc, ◌+◌, ◌-◌, ◌*◌, ◌/◌, ◌%◌, ◌^◌, Bool, cond, not, List, [], ◌∷◌, ◌++◌, ltb, eqb}
 use Rattle.words.specs.Bools.{both}

@@ -1,4 +1,4 @@
--- Refusals as data. To be believed: document 01's table and its "Order".
+-- What a table of refusals answers.
 -- A call's refusals are a list of numbers, each with the condition under which it is "given exactly", in document 01's order.
 use Rattle.std.specs.Prelude.{ℕ, ◌<◌, Bool, true, false, cond, ◌≡◌, refl}
 use Rattle.std.proofs.Common.{arith, ap}

@@ -1,4 +1,4 @@
--- Lists of steps: what holds of each step, where an index of two joined lists falls, and what a whole list leaves.
+-- Lists of steps: what holds of each step, and what a whole list leaves.
 use Rattle.std.specs.Prelude.{ℕ, true, List, [], ◌∷◌}
 use Rattle.steps.specs.Model.{Step, land}
 

@@ -1,6 +1,4 @@
--- What is settled, as a proof handles it: with the write-back and the fence that settle a store. And: the settled stores
--- of a unit are its first ones, so one number per unit says which they are, and "between settled and made" is what a
--- cut permits.
+-- What is settled, as a proof handles it: with the write-back and the fence that settle a store.
 use Rattle.std.specs.Prelude.{ℕ, ◌<◌, true, ◌≡◌}
 use Rattle.steps.specs.Model.{store, write_back, fence, Steps, line}
 use Rattle.steps.specs.Model.{Rule}

@@ -1,4 +1,4 @@
--- `command::number::digit` meets its contract: each test says which case of `digit_of` holds.
+-- `number::digit` meets its contract: each test says which case of `digit_of` holds.
 use borrow.Author.Rules.{rules}
 use borrow.Author.Tests.{lt-ltb, le-ltb}
 use Rattle.number.proofs.digit.Statement.{statement}

@@ -1,4 +1,4 @@
--- `command::number::grow` meets its contract: each test says which case of `grown` holds.
+-- `number::grow` meets its contract: each test says which case of `grown` holds.
 use borrow.Author.Rules.{rules}
 use borrow.Author.Tests.{eq-eqb, ne_eqb, lt-ltb, le-ltb}
 use Prim.Native.Nat.{◌+◌, ◌*◌}

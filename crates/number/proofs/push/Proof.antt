@@ -1,4 +1,4 @@
--- `command::number::push` meets its contract, arm by arm.
+-- `number::push` meets its contract, arm by arm.
 use mathlib.Core.Path.{sym, ap, ◌∙◌}
 use borrow.Author.Rules.{rules}
 use Rattle.number.specs.Reading.{grown_by, pushed}

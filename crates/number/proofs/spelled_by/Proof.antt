@@ -1,4 +1,4 @@
--- `command::number::spelled_by` meets its contract. The invariant: `n` with the bytes from `i` on is the field's number.
+-- `number::spelled_by` meets its contract. The invariant: `n` with the bytes from `i` on is the field's number.
 use mathlib.Core.Path.{◌≡◌, sym, ap, ◌∙◌}
 use Prim.Native.Nat.{◌+◌, ◌-◌}
 use native.Mathlib.Omega.{arith}
