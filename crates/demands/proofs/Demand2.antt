@@ -16,9 +16,21 @@ use Rattle.index.specs.Reading.{entries_in}
 use Rattle.lists.specs.Served.{per_put, per_change}
 use Rattle.demands.specs.Holds.{Holds}
 use Rattle.demands.proofs.Accepted.{set_accepted, del_accepted, put_accepted}
-use Rattle.demands.specs.Carried.{Carried}
+use Rattle.demands.proofs.Carried.{Carried}
 use Rattle.demands.proofs.Carried.{carried, sound_holds, left_holds}
-use Rattle.demands.specs.Demand2.{Call, Demanded, Numbers, after, answered, del, price, put, set}
+use Rattle.demands.specs.Demand2.{Call, Demanded, Numbers, after, answered, del, put, set}
+use Rattle.std.specs.Prelude.{◌≡◌, List, ℕ}
+use Rattle.image.specs.Map.{put_in, without}
+use Rattle.index.specs.Reading.{entries_in}
+use Rattle.lists.specs.Served.{per_put, per_change}
+use Rattle.demands.specs.Holds.{Holds}
+
+-- ---- what each call may cost, for demand 3
+
+abbrev pub price : Call → ℕ
+price (put k v) = per_put
+price (set k v) = per_change
+price (del k) = per_change
 
 pub carried_call : (call : Call) (image list : List ℕ) → Bytes image → Numbers call → (answered call image list).answer ≡ 0
     → Carried image (answered call image list) (after call (entries_in image)) (price call)

@@ -11,9 +11,27 @@ use Rattle.image.specs.Image.{leaves}
 use Rattle.image.proofs.ImageLaws.{length_good, zeros_blank, blank_sound, blank_phi}
 use Rattle.index.proofs.SoundTest.{sound_chain}
 use Rattle.lists.specs.Bytes.{LeftBytes}
-use Rattle.demands.specs.Demand2.{Call, put, set, del, answered, Numbers, price}
+use Rattle.demands.specs.Demand2.{Call, put, set, del, answered, Numbers}
+use Rattle.demands.proofs.Demand2.{price}
 use Rattle.demands.proofs.Demand2.{carried_call}
-use Rattle.demands.specs.Demand3.{Paid, Run, blank, cut, dels, potential, puts, ran, sets, taken, whole}
+use Rattle.demands.specs.Demand3.{Run, blank, cut, dels, puts, ran, sets, taken, whole}
+use Rattle.std.specs.Prelude.{◌≡◌, false, List, ℕ, ◌+◌, ◌*◌, ◌≤◌, length, replicate}
+use Rattle.words.specs.WordLaws.{Bytes}
+use Rattle.steps.specs.Refusals.{bad_image}
+use Rattle.image.specs.Potential.{phi}
+use Rattle.image.specs.Image.{leaves}
+use Rattle.index.specs.Reading.{chain_of}
+use Rattle.demands.specs.Demand2.{Call, put, set, del, answered, Numbers}
+
+-- ---- the potential of an image pays for the line writes
+
+abbrev potential : List ℕ → ℕ
+potential l = phi (leaves l) (chain_of l)
+
+record Paid (image : List ℕ) (W bound : ℕ) : Type 0 where
+  bytes : Bytes image
+  fine : bad_image (length image) ≡ false
+  within : 7 * W + potential image ≤ bound
 
 -- an image that a list leaves, at the cost of w line writes
 left_paid : (l m : List ℕ) (es : List Entry) (W bound w more : ℕ) → bad_image (length l) ≡ false → Paid l W bound

@@ -29,7 +29,7 @@ use Rattle.lists.specs.SetDel.{Behind}
 use Rattle.lists.proofs.SetDel.{near_block}
 use Rattle.writing.specs.Writing.{target_of, before_of, del_of}
 use Rattle.image.specs.Map.{without}
-use Rattle.demands.specs.Accepted.{Accepted, Judged}
+use Rattle.demands.proofs.Accepted.{Accepted, Judged}
 use Rattle.demands.proofs.Accepted.{judged, del_accepted, del_unlinks}
 use Rattle.demands.proofs.Carried.{ran_is}
 use Rattle.demands.specs.Demand3.{ran}

@@ -9,7 +9,22 @@ use Rattle.writing.specs.Writing.{put_table, change_table, put_of, set_of, del_o
 use Rattle.command.specs.declared.Command.{Command}
 use Rattle.command.specs.declared.Command.TheVariants.{Put, Set, Del, Get, List as Listing, Malformed}
 use Rattle.perform.specs.Perform.{room, row, refused, performed}
-use Rattle.demands.specs.Malformed.{Without, lead, width}
+use Rattle.std.specs.Prelude.{Bool, List, [], ◌∷◌, ◌≢◌, ℕ, length}
+
+-- a table of other numbers does not answer n
+abbrev Without : ℕ → List (ℕ × Bool) → Type 0
+Without n [] = n ≢ 0
+Without n (r ∷ rows) = (r.0 ≢ n) × Without n rows
+
+-- the first number of the first line, and how many numbers that line has
+abbrev lead : List (List ℕ) → ℕ
+lead [] = 0
+lead ([] ∷ lines) = 0
+lead ((n ∷ ns) ∷ lines) = n
+
+abbrev width : List (List ℕ) → ℕ
+width [] = 0
+width (line ∷ lines) = length line
 
 other_answer : (n : ℕ) (rows : List (ℕ × Bool)) → Without n rows → answer rows ≢ n
 other_answer n [] w = λ e. w (omega arith)

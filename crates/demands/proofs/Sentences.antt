@@ -29,7 +29,23 @@ use Rattle.writing.specs.Writing.{target_of, free_of, is_among, is_missing, is_f
 use Rattle.demands.specs.Calls.{Asked, find, listing, recovery, put, set, del, run, cut, table}
 use Rattle.demands.specs.Conditions.{BadLength, Unsound, Present, Absent, Among, Full}
 use Rattle.demands.specs.Conditions.{Malformed, BadSteps, ShortBuffer, BadArrivals, conditions}
-use Rattle.demands.specs.Sentences.{Match, Means}
+use Rattle.std.specs.Prelude.{◌≡◌, Bool, true, false, List, [], ◌∷◌, ◌↔◌, ℕ}
+use Rattle.demands.specs.Conditions.{Rows}
+
+-- ---- tests and sentences
+
+-- the test holds exactly when the sentence does
+abbrev Means : Bool → Type 0 → Type 0
+Means b P = (b ≡ true) ↔ P
+
+-- ---- the tables
+
+-- the numbers are the same, and each test is its sentence where those before it are passed
+abbrev pub Match : List (ℕ × Bool) → Rows → Type 0
+Match [] [] = Unit {0}
+Match [] (c ∷ cs) = ⊥
+Match (r ∷ rs) [] = ⊥
+Match (r ∷ rs) (c ∷ cs) = (r.0 ≡ c.0) × Means r.1 c.1 × (r.1 ≡ false → Match rs cs)
 
 -- either of two tests
 means_or : {P Q : Type 0} (b c : Bool) → Means b P → Means c Q → Means (b || c) (P ⊎ Q)

@@ -30,7 +30,57 @@ use Rattle.command.specs.declared.Next.{Next}
 use Rattle.command.specs.Reading.{parse_of, line_at}
 use Rattle.perform.specs.Perform.{Written}
 use Rattle.demands.specs.Calls.{Asked, find, listing, recovery, put, set, del, run, cut, Result, Allowed}
-use Rattle.demands.specs.Unique.{Again, found_from, listed_from, made_from, ran_from, recovered_from}
+use Rattle.std.specs.Prelude.{◌≡◌, cond, ℕ, eqb}
+use Rattle.machine.specs.declared.Ran.{Ran}
+use Rattle.machine.specs.declared.Ran.TheVariants.{Done, BadImage as RanBadImage, BadList, BadArrivals}
+use Rattle.index.specs.declared.find.Found.{Found}
+use Rattle.index.specs.declared.find.Found.TheVariants.{
+  Value,
+  BadImage as FoundBadImage,
+  Unsound as FoundUnsound,
+  Absent as FoundAbsent,
+}
+use Rattle.index.specs.declared.listing.Listed.{Listed}
+use Rattle.index.specs.declared.listing.Listed.TheVariants.{Count, BadImage as ListedBadImage, Unsound as ListedUnsound}
+use Rattle.index.specs.declared.recovery.Recovered.{Recovered}
+use Rattle.index.specs.declared.recovery.Recovered.TheVariants.{
+  Leaves,
+  BadImage as RecoveredBadImage,
+  ShortBuffer,
+  Unsound as RecoveredUnsound,
+}
+use Rattle.index.specs.Reading.{Told, Counted, Sizes}
+use Rattle.writing.specs.declared.Made.{Made}
+use Rattle.writing.specs.declared.Made.TheVariants.{Steps, BadImage, ShortList, Unsound, Present, Absent, Full}
+use Rattle.writing.specs.Writing.{Outcome}
+
+-- ---- a way of telling from which the thing told can be had again is the same for no two things
+
+abbrev Again : {R T : Type 0} → (R → T) → Type 0
+Again {R} {T} shown = (seen : T → R) × ((r : R) → seen (shown r) ≡ r)
+
+abbrev found_from : Told → Found
+found_from t =
+    cond (eqb t.answer 0) (Value t.value)
+    (cond (eqb t.answer 1) FoundBadImage (cond (eqb t.answer 3) FoundUnsound FoundAbsent))
+
+abbrev listed_from : Counted → Listed
+listed_from t = cond (eqb t.answer 0) (Count t.count) (cond (eqb t.answer 1) ListedBadImage ListedUnsound)
+
+abbrev recovered_from : Sizes → Recovered
+recovered_from t =
+    cond (eqb t.answer 0) (Leaves t.leaves t.entries)
+    (cond (eqb t.answer 1) RecoveredBadImage (cond (eqb t.answer 8) ShortBuffer RecoveredUnsound))
+
+abbrev made_from : Outcome → Made
+made_from o =
+    cond (eqb o.answer 0) (Steps o.steps (record { 0 = o.lines }) (record { 0 = o.words }))
+    (cond (eqb o.answer 1) BadImage
+    (cond (eqb o.answer 2) ShortList
+    (cond (eqb o.answer 3) Unsound (cond (eqb o.answer 4) Present (cond (eqb o.answer 5) Absent Full)))))
+
+abbrev ran_from : ℕ → Ran
+ran_from n = cond (eqb n 0) Done (cond (eqb n 1) RanBadImage (cond (eqb n 7) BadList BadArrivals))
 
 same : {R T : Type 0} (shown : R → T) → Again shown → (a b : R) → shown a ≡ shown b → a ≡ b
 same shown g a b e = sym (g.1 a) ∙ ap g.0 e ∙ g.1 b

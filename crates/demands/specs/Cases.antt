@@ -1,6 +1,6 @@
 -- "P1 to P10 are proved by one statement over a table of cases": document 01's "Bench cases".
-use Rattle.std.specs.Prelude.{◌≡◌, Bool, true, false, List, [], ◌∷◌, ◌++◌, ℕ, ◌+◌, ◌*◌, eqb, get_or, replicate}
-use Rattle.words.specs.Bools.{bit, both}
+use Rattle.std.specs.Prelude.{◌≡◌, List, [], ◌∷◌, ◌++◌, ℕ, ◌+◌, ◌*◌, get_or, replicate}
+use Rattle.words.specs.Bools.{bit}
 use Rattle.words.specs.Words.{reads}
 use Rattle.machine.specs.Taking.{store_word, run_of, cut_of}
 use Rattle.image.specs.Image.{leaves}
@@ -172,19 +172,3 @@ table =
     ∷ row bytes (image (behind 1) (replicate 512 0)) ∷ []
     )
     ∷ []
-
--- ---- the table's cases pass, since a test of them all computes to true
-
-abbrev pub same : List ℕ → List ℕ → Bool
-same [] [] = true
-same [] (y ∷ ys) = false
-same (x ∷ xs) [] = false
-same (x ∷ xs) (y ∷ ys) = both (eqb x y) (same xs ys)
-
-abbrev pub tells : List Row → State → Bool
-tells [] s = true
-tells (r ∷ rs) s = both (same (told r.act s) r.tells) (tells rs (left r.act s))
-
-abbrev pub every : List Case → Bool
-every [] = true
-every (c ∷ cs) = both (tells c.rows (start c)) (every cs)

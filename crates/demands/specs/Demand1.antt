@@ -2,8 +2,7 @@
 -- 10. (..) An accepted call answers 0. A refusal tells 0 for every count and value and changes no buffer."
 --
 -- `Conditions` has each call's numbers in that order, with their sentences.
-use Rattle.std.specs.Prelude.{◌≡◌, Bool, true, List, [], ◌∷◌, ◌≢◌, ◌↔◌, ℕ, ◌<◌, ltb}
-use Rattle.words.specs.Bools.{both}
+use Rattle.std.specs.Prelude.{◌≡◌, ◌≢◌, ◌↔◌, ℕ, ◌<◌}
 use Rattle.image.specs.Chain.{All}
 use Rattle.demands.specs.Calls.{Asked, Result}
 use Rattle.demands.specs.Calls.{told, lent}
@@ -18,15 +17,3 @@ pub record Demanded (asked : Asked) (r : Result asked) : Type 0 where
   pub accepted : ((told asked r).number ≡ 0) ↔ NoneGiven (conditions asked)
   -- "A refusal tells 0 for every count and value and changes no buffer."
   pub nothing : (told asked r).number ≢ 0 → All (λ n. n ≡ 0) (told asked r).counts × ((told asked r).buffers ≡ lent asked)
-
--- ---- a table whose rows match the sentences
-
--- no row has the number 0
-abbrev pub numbered : List (ℕ × Bool) → Bool
-numbered [] = true
-numbered (row ∷ rows) = both (ltb 0 row.0) (numbered rows)
-
--- ---- a refused call tells and changes nothing
-
-abbrev pub Nothing : (asked : Asked) → Result asked → Type 0
-Nothing asked r = All (λ n. n ≡ 0) (told asked r).counts × ((told asked r).buffers ≡ lent asked)

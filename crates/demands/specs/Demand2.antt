@@ -13,7 +13,6 @@ use Rattle.steps.specs.Encoding.{step_at}
 use Rattle.machine.specs.Taking.{run_of, cut_of}
 use Rattle.image.specs.Map.{Entry, put_in, without}
 use Rattle.index.specs.Reading.{entries_in}
-use Rattle.lists.specs.Served.{per_put, per_change}
 use Rattle.writing.specs.Writing.{Outcome, put_of, set_of, del_of}
 use Rattle.demands.specs.Holds.{Holds}
 
@@ -56,10 +55,3 @@ pub record Left (call : Call) (image : List ℕ) (o : Outcome) : Type 0 where
 
 abbrev pub Demanded : Call → List ℕ → List ℕ → Type 0
 Demanded call image list = Left call image (answered call image list)
-
--- ---- what each call may cost, for demand 3
-
-abbrev pub price : Call → ℕ
-price (put k v) = per_put
-price (set k v) = per_change
-price (del k) = per_change

@@ -1,14 +1,9 @@
 -- "3. From a blank image, over any run of calls, whole or cut (I puts, D dels, R sets run whole, C accepted calls cut, W line
 -- write-backs taken): 7W ≤ 20I + 7(D + R) + 42C, and no call takes more than 8."
-use Rattle.std.specs.Prelude.{◌≡◌, false, List, ℕ, ◌+◌, ◌*◌, ◌≤◌, length, replicate}
-use Rattle.words.specs.WordLaws.{Bytes}
+use Rattle.std.specs.Prelude.{◌≡◌, List, ℕ, ◌+◌, ◌*◌, ◌≤◌, replicate}
 use Rattle.steps.specs.Model.{line_writes}
 use Rattle.steps.specs.Encoding.{step_at}
-use Rattle.steps.specs.Refusals.{bad_image}
 use Rattle.machine.specs.Taking.{run_of, cut_of}
-use Rattle.image.specs.Potential.{phi}
-use Rattle.image.specs.Image.{leaves}
-use Rattle.index.specs.Reading.{chain_of}
 use Rattle.writing.specs.Writing.{Outcome}
 use Rattle.demands.specs.Demand2.{Call, put, set, del, answered, Numbers}
 
@@ -52,13 +47,3 @@ pub data Run : List ℕ → ℕ → ℕ → ℕ → ℕ → ℕ → Type 0 where
       → (cut_of image (answered call image list).list n arrivals).answer ≡ 0
       → Run (cut_of image (answered call image list).list n arrivals).image I D R (C + 1)
       (W + taken (answered call image list) n)
-
--- ---- the potential of an image pays for the line writes
-
-abbrev pub potential : List ℕ → ℕ
-potential l = phi (leaves l) (chain_of l)
-
-pub record Paid (image : List ℕ) (W bound : ℕ) : Type 0 where
-  pub bytes : Bytes image
-  pub fine : bad_image (length image) ≡ false
-  pub within : 7 * W + potential image ≤ bound
