@@ -1,7 +1,7 @@
 #!/usr/bin/env python3
 """Brings the repository's own definitions and lemmas to today's spelling: words in snake case, types and modules in camel case.
 
-usage: tools/port-names.py          at the top of the repository, once, after /opt/rattle/port/port.py
+usage: tools/port-names.py          at the top of the repository, once, after the kit's port.py
 
 It takes the names that crates/*/specs and crates/*/proofs declare, and turns them in every file of the crates (clauses, definitions,
 proofs and must-fail edits) and, between backticks, in README.md and docs/*.md. A name that a file imports from the library stays in

@@ -2,11 +2,9 @@
 // kind (1 put, 2 set, 3 del, 4 get, 5 list, 9 malformed), key and value; behind the last line how many lines and bytes.
 #![tactic(auto)]
 
-ghost use Rattle.std.specs.Prelude.{◌≤◌, IfOk, length};
-
 use command::{Command, Next};
 use std::io;
-use std::io::{ErrorKind, Read, Write};
+use std::io::Write;
 
 fn field(rt: &impl Print, n: u64, mark: &[u8]) -> io::Result<()> {
     print!(rt; "{n}")?;
@@ -52,27 +50,6 @@ fn read_all(rt: &impl Print, input: &[u8]) -> io::Result<()> {
     tell_counts(rt, lines, input.len() as u64)
 }
 
-// Reads until buf is full or standard input ends, and returns how many bytes it put at the start of buf. A pipe may give fewer
-// bytes than are asked for, with more to come, and a read that a signal interrupts is tried again.
-fn read_full(rt: &impl Input, buf: &mut [u8]) -> io::Result<usize>
-    ensures { IfOk result (λ n. n ≤ length buf.new) }
-{
-    let mut reader = rt.reader();
-    let mut done = 0;
-    for _ in 0..u64::MAX {
-        if done == buf.len() {
-            return Ok(done);
-        }
-        match reader.read(&mut buf[done..]) {
-            Ok(0) => return Ok(done),
-            Ok(n) => done += n,
-            Err(e) if e.kind() == ErrorKind::Interrupted => {}
-            Err(e) => return Err(e),
-        }
-    }
-    Err(io::Error::from(ErrorKind::Interrupted))
-}
-
 fn main(rt: HostRuntime) -> io::Result<()> {
     read_all(&rt, b"")?;
     read_all(&rt, b"\n")?;
@@ -80,6 +57,6 @@ fn main(rt: HostRuntime) -> io::Result<()> {
     read_all(&rt, b"list")?;
     read_all(&rt, b"list\n")?;
     let mut buf = [0u8; 4096];
-    let n = read_full(&rt, &mut buf)?;
+    let n = input::read_full(&rt, &mut buf)?;
     read_all(&rt, &buf[..n])
 }

@@ -44,18 +44,11 @@ use Rattle.demands.proofs.Free.{free_lowest}
 use Rattle.std.specs.Prelude.{◌≡◌, true, false, List, ◌∷◌, ◌++◌, ◌≢◌, ℕ, ◌≤◌, length}
 use Rattle.leaf.specs.Leaf.{Taken}
 use Rattle.leaf.specs.declared.search.Slot.TheVariants.{At}
-use Rattle.steps.specs.declared.Step.{Step}
-use Rattle.steps.specs.Model.{rule01}
 use Rattle.steps.specs.Refusals.{bad_image}
 use Rattle.image.specs.Chain.{Sound}
 use Rattle.image.specs.Map.{Entry, lookup}
-use Rattle.image.specs.Answers.{value_at}
-use Rattle.image.specs.Image.{blocks, leaves}
-use Rattle.image.specs.Target.{Target}
 use Rattle.index.specs.Reading.{is_sound, chain_of, entries_in}
 use Rattle.lists.specs.Served.{lines_of}
-use Rattle.lists.specs.SetDel.{Behind}
-use Rattle.lists.specs.Bytes.{ServedBytes}
 use Rattle.writing.specs.Writing.{target_of, before_of, place_of}
 use Rattle.writing.specs.Writing.{Outcome, outcome}
 
@@ -69,25 +62,6 @@ pub record Judged (l : List ℕ) (k : ℕ) : Type 0 where
   pub chain : chain_of l ≡ front ++ (target_of l k ∷ behind)
   pub before : target_of l k ≢ 0 → Behind front (before_of l k)
   pub value : value_at (leaves l (target_of l k)) (place_of l k) ≡ lookup k (entries_in l)
-
--- ---- an accepted call: what it tells of the list made, and that the list serves
-
-pub record Accepted (l list : List ℕ) (o : Outcome) (es : List Entry) (price : ℕ) : Type 0 where
-  pub made : List Step
-  pub fine : bad_image (length l) ≡ false
-  pub sound : is_sound l ≡ true
-  pub room : 112 ≤ length list
-  pub few : length made ≤ 56
-  pub lines : lines_of made ≤ 8
-  pub served : ServedBytes rule01 l (chain_of l) made es price
-  pub told : o ≡ outcome 0 made list
-
--- the slot of a key that is there
-record Held (l : List ℕ) (k : ℕ) : Type 0 where
-  slot : ℕ
-  at : place_of l k ≡ At slot
-  taken : Taken (leaves l (target_of l k)) slot
-  key : (leaves l (target_of l k)).key slot ≡ k
 
 snoc : (p x : ℕ) (xs : List ℕ) → Behind (x ∷ xs) (last_or p (x ∷ xs))
 snoc p x [] = record { init = []; is = refl }
@@ -117,6 +91,18 @@ judged l k fine so =
       value = noted_value l k fine e;
     }
 
+-- ---- an accepted call: what it tells of the list made, and that the list serves
+
+pub record Accepted (l list : List ℕ) (o : Outcome) (es : List Entry) (price : ℕ) : Type 0 where
+  pub made : List Step
+  pub fine : bad_image (length l) ≡ false
+  pub sound : is_sound l ≡ true
+  pub room : 112 ≤ length list
+  pub few : length made ≤ 56
+  pub lines : lines_of made ≤ 8
+  pub served : ServedBytes rule01 l (chain_of l) made es price
+  pub told : o ≡ outcome 0 made list
+
 told_as : {n : ℕ} {t u : List Step} (list : List ℕ) → n ≡ 0 → t ≡ u → outcome n t list ≡ outcome 0 u list
 told_as list e q = λ i. outcome (e i) (q i) list
 
@@ -128,6 +114,13 @@ served_as {l} f {bs} {t} {price} q S = subst (λ (x : List ℕ). ServedBytes rul
 
 is_full_lem : (w : ℕ → ℕ) (b : ℕ) → count (view w b) ≡ 14 → is_full (view w b) ≡ true
 is_full_lem w b e = eq-eqb (count (view w b)) (view w b).size (e ∙ sym (view_size w b))
+
+-- the slot of a key that is there
+record Held (l : List ℕ) (k : ℕ) : Type 0 where
+  slot : ℕ
+  at : place_of l k ≡ At slot
+  taken : Taken (leaves l (target_of l k)) slot
+  key : (leaves l (target_of l k)).key slot ≡ k
 
 held : (l : List ℕ) (k : ℕ) → Judged l k → is_none (lookup k (entries_in l)) ≡ false → Held l k
 held l k J e = go (place_of l k) refl (ap is_none J.value ∙ e)

@@ -30,14 +30,9 @@ use Rattle.std.specs.Prelude.{◌≡◌, List, false, ◌⊎◌, ℕ, ◌+◌, �
 use Rattle.steps.specs.Model.{rule01, line_writes}
 use Rattle.steps.specs.Settling.{AllSettled}
 use Rattle.steps.specs.Encoding.{step_at}
-use Rattle.steps.specs.Refusals.{bad_image}
 use Rattle.machine.specs.Taking.{run_of, cut_of}
-use Rattle.image.specs.Map.{Entry}
-use Rattle.image.specs.Potential.{phi}
 use Rattle.image.specs.Image.{leaves}
-use Rattle.index.specs.Reading.{chain_of, entries_in}
 use Rattle.lists.specs.Served.{per_line, per_cut}
-use Rattle.lists.specs.Bytes.{LeftBytes}
 use Rattle.writing.specs.Writing.{Outcome}
 
 -- ---- what is carried

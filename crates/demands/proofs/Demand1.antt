@@ -22,7 +22,6 @@ use Rattle.demands.proofs.Sentences.{matched}
 use Rattle.demands.specs.Demand1.{Demanded}
 use Rattle.std.specs.Prelude.{◌≡◌, Bool, true, List, [], ◌∷◌, ◌≢◌, ℕ, ◌<◌, ltb}
 use Rattle.words.specs.Bools.{both}
-use Rattle.image.specs.Chain.{All}
 use Rattle.demands.specs.Calls.{Asked, Result}
 use Rattle.demands.specs.Calls.{told, lent}
 use Rattle.demands.specs.Conditions.{conditions, Given, NoneGiven}
@@ -33,11 +32,6 @@ use Rattle.demands.specs.Conditions.{conditions, Given, NoneGiven}
 abbrev numbered : List (ℕ × Bool) → Bool
 numbered [] = true
 numbered (row ∷ rows) = both (ltb 0 row.0) (numbered rows)
-
--- ---- a refused call tells and changes nothing
-
-abbrev Nothing : (asked : Asked) → Result asked → Type 0
-Nothing asked r = All (λ n. n ≡ 0) (told asked r).counts × ((told asked r).buffers ≡ lent asked)
 
 given_of : (rows : List (ℕ × Bool)) (cs : Rows) → Match rows cs → (n : ℕ) → 0 < n → answer rows ≡ n → Given n cs
 given_of [] [] m n h e = absurd (omega arith)
@@ -112,6 +106,11 @@ answers (set image list key value) r p = ap (λ (o : Outcome). o.answer) p
 answers (del image list key) r p = ap (λ (o : Outcome). o.answer) p
 answers (run image list n) r p = p.0
 answers (cut image list n arrivals) r p = p.0
+
+-- ---- a refused call tells and changes nothing
+
+abbrev Nothing : (asked : Asked) → Result asked → Type 0
+Nothing asked r = All (λ n. n ≡ 0) (told asked r).counts × ((told asked r).buffers ≡ lent asked)
 
 made_nothing : (n : ℕ) (t : List Step) (list : List ℕ) (r : Made × List ℕ) → made_as r.0 r.1 ≡ outcome n t list → n ≢ 0
     → All (λ n. n ≡ 0) (made r.0 r.1).counts × ((made r.0 r.1).buffers ≡ list ∷ [])

@@ -20,10 +20,6 @@ use Rattle.demands.proofs.Carried.{Carried}
 use Rattle.demands.proofs.Carried.{carried, sound_holds, left_holds}
 use Rattle.demands.specs.Demand2.{Call, Demanded, Numbers, after, answered, del, put, set}
 use Rattle.std.specs.Prelude.{◌≡◌, List, ℕ}
-use Rattle.image.specs.Map.{put_in, without}
-use Rattle.index.specs.Reading.{entries_in}
-use Rattle.lists.specs.Served.{per_put, per_change}
-use Rattle.demands.specs.Holds.{Holds}
 
 -- ---- what each call may cost, for demand 3
 

@@ -16,12 +16,7 @@ use Rattle.demands.proofs.Demand2.{price}
 use Rattle.demands.proofs.Demand2.{carried_call}
 use Rattle.demands.specs.Demand3.{Run, blank, cut, dels, puts, ran, sets, taken, whole}
 use Rattle.std.specs.Prelude.{◌≡◌, false, List, ℕ, ◌+◌, ◌*◌, ◌≤◌, length, replicate}
-use Rattle.words.specs.WordLaws.{Bytes}
-use Rattle.steps.specs.Refusals.{bad_image}
-use Rattle.image.specs.Potential.{phi}
-use Rattle.image.specs.Image.{leaves}
 use Rattle.index.specs.Reading.{chain_of}
-use Rattle.demands.specs.Demand2.{Call, put, set, del, answered, Numbers}
 
 -- ---- the potential of an image pays for the line writes
 

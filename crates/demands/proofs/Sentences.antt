@@ -38,15 +38,6 @@ use Rattle.demands.specs.Conditions.{Rows}
 abbrev Means : Bool → Type 0 → Type 0
 Means b P = (b ≡ true) ↔ P
 
--- ---- the tables
-
--- the numbers are the same, and each test is its sentence where those before it are passed
-abbrev pub Match : List (ℕ × Bool) → Rows → Type 0
-Match [] [] = Unit {0}
-Match [] (c ∷ cs) = ⊥
-Match (r ∷ rs) [] = ⊥
-Match (r ∷ rs) (c ∷ cs) = (r.0 ≡ c.0) × Means r.1 c.1 × (r.1 ≡ false → Match rs cs)
-
 -- either of two tests
 means_or : {P Q : Type 0} (b c : Bool) → Means b P → Means c Q → Means (b || c) (P ⊎ Q)
 means_or b c p q = (
@@ -195,6 +186,15 @@ ten z list n arrivals =
     (means_any (outside list n arrivals) (z / 64) (λ x.
     means_or _ _ (means_less (arrived arrivals x) (settled line rule01 (step_at list) n x))
     (means_less (made line (step_at list) n x) (arrived arrivals x))))
+
+-- ---- the tables
+
+-- the numbers are the same, and each test is its sentence where those before it are passed
+abbrev pub Match : List (ℕ × Bool) → Rows → Type 0
+Match [] [] = Unit {0}
+Match [] (c ∷ cs) = ⊥
+Match (r ∷ rs) [] = ⊥
+Match (r ∷ rs) (c ∷ cs) = (r.0 ≡ c.0) × Means r.1 c.1 × (r.1 ≡ false → Match rs cs)
 
 pub matched : (asked : Asked) → Match (table asked) (conditions asked)
 matched (find l k) = (refl, one l, λ f. (refl, three l f, λ s. (refl, five l f s k, λ p. tt)))

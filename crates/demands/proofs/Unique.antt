@@ -31,27 +31,7 @@ use Rattle.command.specs.Reading.{parse_of, line_at}
 use Rattle.perform.specs.Perform.{Written}
 use Rattle.demands.specs.Calls.{Asked, find, listing, recovery, put, set, del, run, cut, Result, Allowed}
 use Rattle.std.specs.Prelude.{◌≡◌, cond, ℕ, eqb}
-use Rattle.machine.specs.declared.Ran.{Ran}
-use Rattle.machine.specs.declared.Ran.TheVariants.{Done, BadImage as RanBadImage, BadList, BadArrivals}
-use Rattle.index.specs.declared.find.Found.{Found}
-use Rattle.index.specs.declared.find.Found.TheVariants.{
-  Value,
-  BadImage as FoundBadImage,
-  Unsound as FoundUnsound,
-  Absent as FoundAbsent,
-}
-use Rattle.index.specs.declared.listing.Listed.{Listed}
-use Rattle.index.specs.declared.listing.Listed.TheVariants.{Count, BadImage as ListedBadImage, Unsound as ListedUnsound}
-use Rattle.index.specs.declared.recovery.Recovered.{Recovered}
-use Rattle.index.specs.declared.recovery.Recovered.TheVariants.{
-  Leaves,
-  BadImage as RecoveredBadImage,
-  ShortBuffer,
-  Unsound as RecoveredUnsound,
-}
 use Rattle.index.specs.Reading.{Told, Counted, Sizes}
-use Rattle.writing.specs.declared.Made.{Made}
-use Rattle.writing.specs.declared.Made.TheVariants.{Steps, BadImage, ShortList, Unsound, Present, Absent, Full}
 use Rattle.writing.specs.Writing.{Outcome}
 
 -- ---- a way of telling from which the thing told can be had again is the same for no two things
@@ -59,31 +39,13 @@ use Rattle.writing.specs.Writing.{Outcome}
 abbrev Again : {R T : Type 0} → (R → T) → Type 0
 Again {R} {T} shown = (seen : T → R) × ((r : R) → seen (shown r) ≡ r)
 
+same : {R T : Type 0} (shown : R → T) → Again shown → (a b : R) → shown a ≡ shown b → a ≡ b
+same shown g a b e = sym (g.1 a) ∙ ap g.0 e ∙ g.1 b
+
 abbrev found_from : Told → Found
 found_from t =
     cond (eqb t.answer 0) (Value t.value)
     (cond (eqb t.answer 1) FoundBadImage (cond (eqb t.answer 3) FoundUnsound FoundAbsent))
-
-abbrev listed_from : Counted → Listed
-listed_from t = cond (eqb t.answer 0) (Count t.count) (cond (eqb t.answer 1) ListedBadImage ListedUnsound)
-
-abbrev recovered_from : Sizes → Recovered
-recovered_from t =
-    cond (eqb t.answer 0) (Leaves t.leaves t.entries)
-    (cond (eqb t.answer 1) RecoveredBadImage (cond (eqb t.answer 8) ShortBuffer RecoveredUnsound))
-
-abbrev made_from : Outcome → Made
-made_from o =
-    cond (eqb o.answer 0) (Steps o.steps (record { 0 = o.lines }) (record { 0 = o.words }))
-    (cond (eqb o.answer 1) BadImage
-    (cond (eqb o.answer 2) ShortList
-    (cond (eqb o.answer 3) Unsound (cond (eqb o.answer 4) Present (cond (eqb o.answer 5) Absent Full)))))
-
-abbrev ran_from : ℕ → Ran
-ran_from n = cond (eqb n 0) Done (cond (eqb n 1) RanBadImage (cond (eqb n 7) BadList BadArrivals))
-
-same : {R T : Type 0} (shown : R → T) → Again shown → (a b : R) → shown a ≡ shown b → a ≡ b
-same shown g a b e = sym (g.1 a) ∙ ap g.0 e ∙ g.1 b
 
 found_again : (r : Found) → found_from (found_as r) ≡ r
 found_again (Value v) = refl
@@ -91,16 +53,31 @@ found_again FoundBadImage = refl
 found_again FoundUnsound = refl
 found_again FoundAbsent = refl
 
+abbrev listed_from : Counted → Listed
+listed_from t = cond (eqb t.answer 0) (Count t.count) (cond (eqb t.answer 1) ListedBadImage ListedUnsound)
+
 listed_again : (r : Listed) → listed_from (listed_as r) ≡ r
 listed_again (Count m) = refl
 listed_again ListedBadImage = refl
 listed_again ListedUnsound = refl
+
+abbrev recovered_from : Sizes → Recovered
+recovered_from t =
+    cond (eqb t.answer 0) (Leaves t.leaves t.entries)
+    (cond (eqb t.answer 1) RecoveredBadImage (cond (eqb t.answer 8) ShortBuffer RecoveredUnsound))
 
 recovered_again : (r : Recovered) → recovered_from (recovered_as r) ≡ r
 recovered_again (Leaves b m) = refl
 recovered_again RecoveredBadImage = refl
 recovered_again ShortBuffer = refl
 recovered_again RecoveredUnsound = refl
+
+abbrev made_from : Outcome → Made
+made_from o =
+    cond (eqb o.answer 0) (Steps o.steps (record { 0 = o.lines }) (record { 0 = o.words }))
+    (cond (eqb o.answer 1) BadImage
+    (cond (eqb o.answer 2) ShortList
+    (cond (eqb o.answer 3) Unsound (cond (eqb o.answer 4) Present (cond (eqb o.answer 5) Absent Full)))))
 
 made_again : (r : Made) (list : List ℕ) → made_from (made_as r list) ≡ r
 made_again (Steps n lines words) list = refl
@@ -124,6 +101,9 @@ made_same : (r s : Made × List ℕ) → made_as r.0 r.1 ≡ made_as s.0 s.1 →
 made_same =
     same (λ r. made_as r.0 r.1)
     ((λ o. (made_from o, o.list)), λ r. λ i. (made_again r.0 r.1 i, made_list r.0 r.1 i))
+
+abbrev ran_from : ℕ → Ran
+ran_from n = cond (eqb n 0) Done (cond (eqb n 1) RanBadImage (cond (eqb n 7) BadList BadArrivals))
 
 ran_again : (r : Ran) → ran_from (ran_as r) ≡ r
 ran_again Done = refl

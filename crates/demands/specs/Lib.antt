@@ -1,5 +1,5 @@
--- The demands. To believe: Calls, UniqueOutside, Conditions, Demand1, Holds, Demand2, Demand3, Alike and Cases; the theorems stand in
--- proofs/ under the same names. Sentences, Accepted and Carried join the calls' contracts with what the crates below prove.
+-- The demands, all to be believed but Computing, which names what has to be opened to compute a case. The theorems stand in proofs/
+-- under the same names.
 pub mod Calls
 pub mod UniqueOutside
 pub mod Conditions

@@ -10,9 +10,9 @@ use Rattle.told.specs.declared.making.HutMade.{HutMade}
 use Rattle.board.specs.Told.{made_is}
 use Rattle.demands.specs.Calls.{Asked, find, listing, recovery, put, set, del, run, cut}
 
--- ---- the contracts of the C interface, as `Calls` has those below: `contracts/src/outside.rt` proves that they are
--- `board`'s, and `board_c/src/outside.rt` that they are the exports'
+-- ---- the contracts of the C interface, as `Calls` has those below: `contracts/src/outside.rt` proves that they are the sources'
 
+-- `board`'s, and `board_c/src/outside.rt` that they are the exports'
 abbrev pub OutsideResult : Asked → Type 0
 OutsideResult (find image key) = HutFound
 OutsideResult (listing image from keys values) = HutListed × List ℕ × List ℕ

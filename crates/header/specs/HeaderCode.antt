@@ -1,7 +1,8 @@
--- A header is held as two words: a field of the whole is a field of one of the two, and the methods, which work on one word at a
--- time, compute what `Header` says.
+-- What the search for the lowest occupied slot tells.
 use Rattle.std.specs.Prelude.{true, false, ◌≡◌, ℕ, ◌≤◌, ◌<◌}
 use Rattle.header.specs.Header.{is_occupied}
+
+-- ---- what each method computes
 
 -- slot s is the lowest that is occupied; 14 where none is
 pub record FirstTaken (n s : ℕ) : Type 0 where

@@ -41,6 +41,8 @@ module _ (I J : ℕ → Leaf) (N : ℕ) (bs cs : List ℕ) (S : Sound I N bs) wh
       lists_unique (Has J cs) (Has I bs) (list_of J cs) (list_of I bs) s.map (chain_lists J N cs s.sound)
       (chain_lists I N bs S)
 
+-- ---- find
+
 pub find_lookup : (I : ℕ → Leaf) (N : ℕ) (xs : List ℕ) (b : ℕ) (ys : List ℕ) → Sound I N (xs ++ (b ∷ ys)) → (k : ℕ)
     → Target I b ys k → value_at (I b) (slot_of (I b) k) ≡ lookup k (list_of I (xs ++ (b ∷ ys)))
 find_lookup I N xs b ys S k t = go (slot_of (I b) k) refl

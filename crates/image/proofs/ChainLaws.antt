@@ -92,6 +92,8 @@ module _ (I : ℕ → Leaf) where
     rising_join xs ys r.1 q (λ k v j u h. b k v j u (inr h)),
   )
 
+-- ---- soundness by leaf
+
 module _ (I : ℕ → Leaf) (N : ℕ) where
   goods : (bs : List ℕ) → All (λ b. (I b).lock ≡ false) bs → All (λ b. (I b).next < N) bs → All (λ b. Prints (I b)) bs
       → All (λ b. Differ (I b)) bs → All (λ b. (b ≡ 0) ⊎ Filled (I b)) bs → All (Good I N) bs

@@ -1,11 +1,8 @@
--- Chains in two parts, what soundness says of one leaf, and images whose chained leaves agree in all that is used.
+-- What soundness asks of a leaf by itself.
 use Rattle.std.specs.Prelude.{◌≡◌, false, ◌⊎◌, ℕ, ◌<◌}
 use Rattle.leaf.specs.Leaf.{Leaf, Right}
 use Rattle.image.specs.Chain.{Filled}
 
--- ---- soundness by leaf
-
--- what soundness asks of a leaf by itself
 pub record Good (I : ℕ → Leaf) (N b : ℕ) : Type 0 where
   pub unlocked : (I b).lock ≡ false
   pub near : (I b).next < N

@@ -1,6 +1,4 @@
--- A walk along the siblings from block 0: what has been met is the chain so far of every chain that makes the image
--- sound, and a leaf that stands there as soundness asks is one more of it. So a walk that finds a fault says that no
--- chain does, and one that ends says that what it met is the chain.
+-- A walk along the siblings from block 0: what has been met is the chain so far of every chain that makes the image sound.
 use Rattle.std.specs.Prelude.{List, ℕ}
 use Rattle.leaf.specs.Leaf.{Leaf}
 use Rattle.image.specs.Chain.{All, Links, Distinct, Rising}

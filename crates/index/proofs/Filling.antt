@@ -18,6 +18,8 @@ use Rattle.image.specs.Map.{Entry}
 use Rattle.index.specs.Reading.{over}
 use Rattle.index.specs.Filling.{Buffers, buffers, entered, fill}
 
+-- ---- the buffers
+
 sets_over : (xs l : List ℕ) → length xs ≤ length l → sets l 0 xs ≡ over xs l
 sets_over xs l h = sets-eq xs l 0 (omega arith) ∙ ap (λ (m : ℕ). xs ++ drop m l) (zero-add (length xs))
 

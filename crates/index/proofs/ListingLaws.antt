@@ -29,6 +29,8 @@ use Rattle.index.proofs.Along.{chain_on, chain_last, chain_over}
 use Rattle.index.specs.declared.listing.Listed.TheVariants.{Count, BadImage, Unsound}
 use Rattle.index.specs.ListingLaws.{entries_from, list_from}
 
+-- ---- one leaf
+
 module _ (L : Leaf) (room i n : ℕ) (ss ks vs : List ℕ) (whole : Buffers)
     (so_far : fill room (entries_at L (drop i ss)) (buffers n ks vs) ≡ whole) where
   pub slots_end : length ss ≤ i → buffers n ks vs ≡ whole
@@ -54,6 +56,8 @@ pub order_lists : (l : List ℕ) (lo : ℕ) (ss : List ℕ) → ss ≡ slots_fro
     → entries_at (leaf_in l) ss ≡ entries_from (leaf_in l) lo
 unfolding entries_from leaf_in
 order_lists l lo ss e = ap (entries_at (leaf_in l)) e
+
+-- ---- the leaves of a chain
 
 list_all : (I : ℕ → Leaf) (bs : List ℕ) → list_from I 0 bs ≡ list_of I bs
 unfolding list_from list_of entries_from entries_of slots_of

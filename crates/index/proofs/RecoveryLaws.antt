@@ -24,6 +24,8 @@ use Rattle.index.proofs.Along.{visited_chain}
 use Rattle.index.specs.declared.recovery.Recovered.TheVariants.{Leaves, BadImage, ShortBuffer, Unsound}
 use Rattle.index.specs.RecoveryLaws.{Copied}
 
+-- ---- the notes written out
+
 pub copied_none : (xs l : List ℕ) → Copied 0 xs l l
 copied_none xs l = record { same = refl; front = λ j b. absurd (omega arith); back = λ j b. refl }
 

@@ -1,12 +1,10 @@
 -- Two buffers filled with the keys and values of entries, one by one, while there is room: what the loops of listing and
--- recovery compute, and what it comes to.
+-- recovery compute.
 use Rattle.std.specs.Prelude.{ltb, set}
 use Rattle.std.proofs.Math.Bool.{cond}
 use mathlib.Core.List.{List, [], ◌∷◌}
 use Prim.Native.Nat.{ℕ, ◌+◌}
 use Rattle.image.specs.Map.{Entry}
-
--- ---- the buffers
 
 -- so many elements are used
 pub record Buffers : Type 0 where

@@ -1,5 +1,4 @@
--- One turn of each loop of listing, as a step of what the buffers are filled with, and each answer, from the tests that led
--- to it.
+-- What listing fills its buffers with.
 use mathlib.Core.List.{List, [], ◌∷◌, ◌++◌}
 use Prim.Native.Nat.{ℕ}
 use Rattle.leaf.specs.Leaf.{Leaf}

@@ -1,9 +1,7 @@
--- The notes of recovery's walk written out, and each answer, from the tests that led to it.
+-- The notes of recovery's walk written out.
 use Rattle.std.specs.Prelude.{◌≡◌, ℕ, ◌≤◌, ◌<◌, get_or}
 use mathlib.Core.List.{List}
 use Rattle.std.proofs.Math.ListN.{length}
-
--- ---- the notes written out
 
 -- the first n elements are those of xs, and the others stay
 pub record Copied (n : ℕ) (xs before after : List ℕ) : Type 0 where

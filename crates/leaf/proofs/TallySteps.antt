@@ -18,6 +18,8 @@ use Rattle.leaf.specs.Tally.{wrong_at, least_to, most_to, shares, twin_at, twins
 use Rattle.leaf.specs.declared.tally.Tally.{Tally}
 use Rattle.leaf.specs.TallySteps.{Few, Hits, Stamped, TellsTo, noted, passed}
 
+-- ---- the pass
+
 pub noted_is : (print key hit : ℕ) (t : Tally) (own wrong least most : ℕ) → own ≡ fingerprint_of key
     → wrong ≡ cond (not (eqb print own)) 1 0 → least ≡ min t.least key → most ≡ max
     t.most key

@@ -1,4 +1,4 @@
--- One turn of the pass over the slots, and of the search for twins.
+-- What one turn of the pass over the slots adds, and what the pass has told so far.
 use Rattle.std.specs.Prelude.{◌≡◌, false, cond, not, List, ℕ, zero, suc, ◌+◌, ◌*◌, ◌/◌, ◌%◌, ◌^◌, ◌<◌, min, max, eqb}
 use Rattle.std.proofs.Math.ListN.{get_or}
 use Rattle.words.specs.Below.{count_below}
@@ -6,8 +6,6 @@ use Rattle.header.specs.Header.{fingerprint_of}
 use Rattle.leaf.specs.Leaf.{Leaf, Taken}
 use Rattle.leaf.specs.Tally.{wrong_at, least_to, most_to, twin_at}
 use Rattle.leaf.specs.declared.tally.Tally.{Tally}
-
--- ---- the pass
 
 -- the tally with one more occupied slot, of that fingerprint and key
 abbrev pub noted : (print key hit : ℕ) → Tally → Tally

@@ -1,4 +1,4 @@
--- Set and del: lists of one store.
+-- Which leaf stands before another, for the del that takes a leaf out of the chain.
 use Prim.Native.Nat.{ℕ}
 use Rattle.std.specs.Prelude.{◌≡◌}
 use mathlib.Core.List.{List, [], ◌∷◌, ◌++◌}

@@ -8,6 +8,7 @@ use Rattle.steps.specs.Model.{Step, store, write_back, fence, land, run}
 use Rattle.steps.specs.Encoding.{steps_of}
 use Rattle.steps.specs.Lists.{Each, run_all}
 
+-- of a step, if it is a store, its place and value
 abbrev pub Into : (ℕ → ℕ → Type 0) → Step → Type 0
 Into Q (store p v) = Q p v
 Into Q (write_back k) = Unit {0}

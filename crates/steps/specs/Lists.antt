@@ -2,7 +2,7 @@
 use Rattle.std.specs.Prelude.{ℕ, true, List, [], ◌∷◌}
 use Rattle.steps.specs.Model.{Step, land}
 
--- every step of a list; of a step, if it is a store, its place and value
+-- every step of a list
 abbrev pub Each : (Step → Type 0) → List Step → Type 0
 Each P [] = Unit {0}
 Each P (x ∷ l) = P x × Each P l

@@ -1,5 +1,4 @@
--- THE SECTION THEOREM. A section is a run of steps whose last store decides: what a cut of it leaves is as before, in all
--- that is used, or is what the whole section leaves. (Source 001, Definition 2.1 and Theorem 2.1.)
+-- A section is a run of steps whose last store decides. What a cut of it can leave is the section theorem, in proofs/Section.
 use Rattle.std.specs.Prelude.{ℕ, ◌<◌, ◌≤◌, ◌≡◌}
 use Rattle.steps.specs.Model.{store, Steps, line}
 use Rattle.steps.specs.Model.{Rule}

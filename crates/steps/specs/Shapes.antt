@@ -1,5 +1,5 @@
 -- Shapes of lists that are sections: stores to one line with its write-back and a fence, and before them stores to other
--- lines with theirs. And: two lists in a row, the first of them settled.
+-- lines with theirs.
 use Rattle.std.specs.Prelude.{ℕ, List, [], ◌∷◌, ◌++◌}
 use Rattle.steps.specs.Model.{Step, store, write_back, fence, line}
 

@@ -1,4 +1,4 @@
--- A leaf in which no fault is found, and one in which none is.
+-- A leaf in which no fault is found.
 use Rattle.std.specs.Prelude.{◌≡◌, false, ℕ, ◌<◌}
 use Rattle.words.specs.Below.{count_below}
 use Rattle.leaf.specs.Leaf.{Leaf}

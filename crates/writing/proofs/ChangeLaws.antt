@@ -65,6 +65,8 @@ module _ (l list : List ℕ) (k : ℕ) (rest : List (ℕ × Bool)) (made : List 
       pub accepted : (surveyed (leaves l) (blocks l) k).stage ≡ 1 → outcome (answer rest) made list ≡ refused_or
       accepted e = λ i. three_rows (sym fine i) (sym (le-ltb (length list) 112 room) i) (sym (says_yes l k fine e) i) rest made list
 
+-- ---- set and del: by the slot of the key, absent or made
+
 module _ (l list : List ℕ) (k : ℕ) (made : ℕ → List Step) where
   abbrev pub changed : Outcome
   changed = outcome (answer (change_table l list k)) (at_slot (place_of l k) made) list
@@ -93,6 +95,8 @@ module _ (l list : List ℕ) (k : ℕ) (made : ℕ → List Step) where
               → by_slot x made list ≡ outcome (answer ((5, is_none (value_at (leaves l (target_of l k)) x)) ∷ [])) (at_slot x made) list
           by (At s) = refl
           by Missing = refl
+
+-- ---- the three steps of set and del, as they are told
 
 pub three_told : (p v : ℕ) (list : List ℕ) → made_as three_steps (written (one_store p v) list) ≡ outcome 0 (one_store p v) list
 unfolding count_below

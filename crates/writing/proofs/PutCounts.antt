@@ -30,6 +30,8 @@ told : (l : List Step) (list : List ℕ) (n lines words : ℕ) → n ≡ length 
     → made_as (Steps n (record { 0 = lines }) (record { 0 = words })) (written l list) ≡ outcome 0 l list
 told l list n lines words a b c = λ i. record { answer = 0; steps = a i; lines = b i; words = c i; list = written l list }
 
+-- ---- a plain put: 5 steps into line 0, else at least 8; each line write has its fence
+
 record Plain (l : List Step) : Type 0 where
   some : 5 ≤ length l
   lines : plain_lines (length l) ≡ lines_of l
@@ -75,6 +77,8 @@ module _ (h : ℕ) (L : Leaf) (b s k v n : ℕ) (list behind : List ℕ) (w : Wr
       (λ i. made_as (told_as i) ((w.0 ∙ appended_start P list (omega (arith, w.1, w.2))) i))
       ∙ plain_told h L b s k v n list w.1
       ∙ ap (λ (N : Leaf). outcome 0 (put_at h N b s k v) list) e
+
+-- ---- a put into a full leaf: 42 steps of the split, 6 of them line writes and 2 fences, and the plain put that may follow
 
 below : (t : Bool) (w : ℕ → ℕ) (b c k v : ℕ) → (put_below t w b c k v ≡ []) ⊎ Plain (put_below t w b c k v)
 unfolding plain_put

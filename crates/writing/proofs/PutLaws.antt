@@ -109,6 +109,8 @@ full_vacant w b = by (lowest_vacant (occ_in (head_in w b)) 14) refl
 pub out_apart : (n b c : ℕ) → is_in n b ≡ true → not (is_in n c) ≡ true → b ≢ c
 out_apart n b c has lacks = λ q. differ (sym lacks ∙ ap not (ap (is_in n) (sym q) ∙ has))
 
+-- ---- put, by the slot of the key, the lowest vacant slot and the lowest free block
+
 module _ (l list : List ℕ) (k v : ℕ) where
   abbrev rows : List (ℕ × Bool)
   rows = (4, not (is_none (lookup k (entries_in l)))) ∷ (6, both (is_full (leaves l (target_of l k))) (is_missing (free_of l))) ∷ []

@@ -1,4 +1,4 @@
--- Each answer of set and del, from the tests that led to it.
+-- What set and del answer, by the slot of the key: absent, or three steps made.
 use Rattle.std.specs.Prelude.{List, ℕ}
 use Rattle.leaf.specs.declared.search.Slot.{Slot}
 use Rattle.leaf.specs.declared.search.Slot.TheVariants.{At, Missing}
@@ -7,13 +7,9 @@ use Rattle.writing.specs.Writing.{Outcome, outcome, made_as}
 use Rattle.writing.specs.declared.Made.{Made}
 use Rattle.writing.specs.declared.Made.TheVariants.{Steps, Absent}
 
--- ---- set and del: by the slot of the key, absent or made
-
 abbrev pub by_slot : Slot → (ℕ → List Step) → List ℕ → Outcome
 by_slot (At s) made list = outcome 0 (made s) list
 by_slot Missing made list = made_as Absent list
-
--- ---- the three steps of set and del, as they are told
 
 abbrev pub three_steps : Made
 three_steps = Steps 3 (record { 0 = 1 }) (record { 0 = 1 })

@@ -1,4 +1,4 @@
--- Each answer of put, from the tests that led to it.
+-- What put answers, by the slot of the key, the lowest vacant slot and the lowest free block.
 use Rattle.std.specs.Prelude.{List, ℕ}
 use Rattle.leaf.specs.Leaf.{view}
 use Rattle.leaf.specs.declared.search.Slot.{Slot}
@@ -7,8 +7,6 @@ use Rattle.lists.specs.Lists.{head_in, put_at}
 use Rattle.lists.specs.FullLists.{full_put}
 use Rattle.writing.specs.Writing.{Outcome, outcome, made_as}
 use Rattle.writing.specs.declared.Made.TheVariants.{Present, Full}
-
--- ---- put, by the slot of the key, the lowest vacant slot and the lowest free block
 
 abbrev pub put_by : Slot → Slot → Slot → (ℕ → ℕ) → ℕ → ℕ → ℕ → List ℕ → Outcome
 put_by (At t) y z w b k v list = made_as Present list

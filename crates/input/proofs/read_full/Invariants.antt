@@ -1,6 +1,6 @@
 -- Each read stays within the buffer.
 use Rattle.std.proofs.Common.{◌≤◌, length}
-use Rattle.command_cases.proofs.read_full.Given as goal
+use Rattle.input.proofs.read_full.Given as goal
 
 abbrev pub invariant-loop : goal.invariant-loop
 invariant-loop g l = l.done ≤ length l.buf
