@@ -2,7 +2,6 @@
 // and `perform`; here is only reading and writing.
 #![tactic(auto)]
 
-use command::Next;
 use perform::ROOM;
 use std::io;
 use std::io::Write;
@@ -11,15 +10,10 @@ fn serve(rt: &impl Print, input: &[u8]) -> io::Result<()> {
     let mut image = [0u8; 1024];
     let mut out = [0u8; ROOM];
     let mut at = 0;
-    loop {
-        match command::read_line(input, at) {
-            Next::Line(command, next) => {
-                let n = perform::perform(&mut image, command, &mut out);
-                io::writer(rt).write_all(&out[..n])?;
-                at = next;
-            }
-            Next::End => break,
-        }
+    while let Some((command, next)) = command::read_line(input, at) {
+        let n = perform::perform(&mut image, command, &mut out);
+        io::writer(rt).write_all(&out[..n])?;
+        at = next;
     }
     Ok(())
 }

@@ -7,24 +7,24 @@ ghost use Rattle.index.specs.Reading.{sizes, recovery_is, recovery_of};
 use index::find::find;
 use index::listing::listing;
 use index::recovery::recovery;
-use told::reading::{HutFound, HutListed, HutRecovered, told_found, told_listed, told_recovered};
+use told::reading::{HutFound, HutListed, HutRecovered};
 
 pub fn hut_find(image: &[u8], key: u64) -> HutFound
     ensures { told result.answer result.value ≡ find_of image.now key }
 {
-    told_found(find(image, key))
+    HutFound::from(find(image, key))
 }
 
 pub fn hut_listing(image: &[u8], from: u64, keys: &mut [u64], values: &mut [u64]) -> HutListed
     ensures { listing_is (counted result.answer result.count) keys.new values.new
         ≡ listing_of image.now from keys.old values.old }
 {
-    told_listed(listing(image, from, keys, values))
+    HutListed::from(listing(image, from, keys, values))
 }
 
 pub fn hut_recovery(image: &[u8], smallest: &mut [u64], blocks: &mut [u64]) -> HutRecovered
     ensures { recovery_is (sizes result.answer result.leaves result.entries) smallest.new blocks.new
         ≡ recovery_of image.now smallest.old blocks.old }
 {
-    told_recovered(recovery(image, smallest, blocks))
+    HutRecovered::from(recovery(image, smallest, blocks))
 }

@@ -1,22 +1,16 @@
 -- A line is read as the command c exactly when its bytes are the spelling of c; every other line is malformed.
-use Rattle.std.specs.Prelude.{◌≡◌, refl, Bool, true, false, cond, ◌≢◌, ◌↔◌, List, [], ◌∷◌, ◌++◌, ℕ, suc, ◌+◌, ◌/◌, ◌%◌, ◌^◌, ◌≤◌, ◌<◌, eqb, length, get_or, take, drop}
+use Rattle.std.specs.Prelude.{◌≡◌, refl, Bool, true, false, cond, ◌↔◌, List, [], ◌∷◌, ◌++◌, ℕ, suc, ◌+◌, ◌/◌, ◌%◌, ◌^◌, ◌≤◌, ◌<◌, eqb, length, get_or, take, drop, Option, None, Some}
 use Rattle.std.proofs.Common.{ap, sym, ◌∙◌, subst, add-zero, not-suc-le-zero, arith, eqb-true, ne_eqb, length-append, length-drop, drop_of_length-le, take_at, drop_at, drop-drop}
-use Rattle.std.proofs.Math.Option.{none, some}
 use Rattle.std.proofs.Math.Seq.{split_at, append_snoc}
 use Rattle.words.specs.Bools.{both, by_test, differ, never}
 use Rattle.number.specs.Decimal.{decimal}
 use Rattle.number.specs.Reading.{spelled_by}
 use Rattle.number.proofs.DecimalLaws.{by_digits, decimal_small, decimal_more, decimal_some, number_decimal, number_read}
-use Rattle.number.specs.declared.Number.{Number}
-use Rattle.number.specs.declared.Number.TheVariants.{Is, Not}
 use Rattle.command.specs.Spelling.{put_word, set_word, del_word, get_word, list_word, spelling, InRange}
 use Rattle.command.specs.Reading.{until, begins, field_of, field_at, pair_of, pair_from, pair_at}
-use Rattle.command.specs.Reading.{past_tab, tabbed, as_put, as_set, as_del, as_get, parse_of}
+use Rattle.command.specs.Reading.{past_tab, tabbed, of_pair, of_key, parse_of}
 use Rattle.command.specs.declared.Command.{Command}
-use Rattle.command.specs.declared.Command.TheVariants.{Put, Set, Del, Get, List as Listing, Malformed}
-use Rattle.command.specs.declared.Field.TheVariants.{Number as number}
-use Rattle.command.specs.declared.Pair.{Pair}
-use Rattle.command.specs.declared.Pair.TheVariants.{Both, Nothing as no-pair}
+use Rattle.command.specs.declared.Command.TheVariants.{Put, Set, Del, Get, List as Listing}
 
 -- ---- what is spelled is read
 
@@ -40,7 +34,7 @@ until_decimal = by_digits (λ n. (m : List ℕ) → until 9 (decimal n ++ m) ≡
         ) (omega arith)
 
 field_spelled : (l : List ℕ) (at k : ℕ) (m : List ℕ) → drop at l ≡ decimal k ++ 9 ∷ m → k < 2 ^ 64
-    → field_at l at ≡ number k (at + length (decimal k))
+    → field_at l at ≡ Some (k, at + length (decimal k))
 unfolding until
 field_spelled l at k m e h =
     let f : until 9 (drop at l) ≡ length (decimal k) =
@@ -48,10 +42,10 @@ field_spelled l at k m e h =
     let g : take (until 9 (drop at l)) (drop at l) ≡ decimal k =
     rw (f, e) (take_at (decimal k) (9 ∷ m) (length (decimal k)) refl) in
     ap (λ (x : List ℕ). field_of (spelled_by x) (at + until 9 (drop at l))) g
-    ∙ ap (λ (x : Number). field_of x (at + until 9 (drop at l))) (number_decimal k h) ∙ ap (λ (x : ℕ). number k (at + x)) f
+    ∙ ap (λ (x : Option ℕ). field_of x (at + until 9 (drop at l))) (number_decimal k h) ∙ ap (λ (x : ℕ). Some (k, at + x)) f
 
 pair_spelled : (l : List ℕ) (at k v : ℕ) → drop at l ≡ decimal k ++ 9 ∷ decimal v → k < 2 ^ 64 → v < 2 ^ 64
-    → pair_at l at ≡ Both k v
+    → pair_at l at ≡ Some (k, v)
 pair_spelled l at k v e hk hv =
     ap (pair_from l) (field_spelled l at k (decimal v) e hk) ∙ ap (λ (x : List ℕ). pair_of k (spelled_by x)) behind
     ∙ ap (pair_of k) (number_decimal v hv)
@@ -63,31 +57,25 @@ pair_spelled l at k v e hk hv =
         ∙ ap (drop (length (decimal k) + 1)) (e ∙ sym (append_snoc (decimal k) 9 (decimal v)))
         ∙ drop_at (decimal k ++ 9 ∷ []) (decimal v) (length (decimal k) + 1) (length-append (decimal k) (9 ∷ []))
 
-at_line : (l line : List ℕ) (c : Command) → some l ≡ some line → parse_of l ≡ c → parse_of line ≡ c
-at_line l line c e p = let z : l ≡ line = cc in subst (λ (x : List ℕ). parse_of x ≡ c) z p
-
-spelled_read : (line : List ℕ) (c : Command) → spelling c ≡ some line → InRange c → parse_of line ≡ c
+spelled_read : (c : Command) → InRange c → parse_of (spelling c) ≡ Some c
 unfolding parse_of begins
-spelled_read line (Put k v) e h =
-    let l = put_word ++ 9 ∷ (decimal k ++ 9 ∷ decimal v) in
-    at_line l line (Put k v) e (ap as_put (pair_spelled l 4 k v refl h.0 h.1))
-spelled_read line (Set k v) e h =
-    let l = set_word ++ 9 ∷ (decimal k ++ 9 ∷ decimal v) in
-    at_line l line (Set k v) e (ap as_set (pair_spelled l 4 k v refl h.0 h.1))
-spelled_read line (Del k) e h = at_line (del_word ++ 9 ∷ decimal k) line (Del k) e (ap as_del (number_decimal k h))
-spelled_read line (Get k) e h = at_line (get_word ++ 9 ∷ decimal k) line (Get k) e (ap as_get (number_decimal k h))
-spelled_read line Listing e h = at_line list_word line Listing e refl
-spelled_read line Malformed e h = never cc
+spelled_read (Put k v) h =
+    ap (of_pair Put) (pair_spelled (put_word ++ 9 ∷ (decimal k ++ 9 ∷ decimal v)) 4 k v refl h.0 h.1)
+spelled_read (Set k v) h =
+    ap (of_pair Set) (pair_spelled (set_word ++ 9 ∷ (decimal k ++ 9 ∷ decimal v)) 4 k v refl h.0 h.1)
+spelled_read (Del k) h = ap (of_key Del) (number_decimal k h)
+spelled_read (Get k) h = ap (of_key Get) (number_decimal k h)
+spelled_read Listing h = refl
 
 -- ---- what is read is spelled so
 
-number_cases : (P : Number → Type 0) (l : List ℕ)
-    → ((n : ℕ) → l ≡ decimal n → n < 2 ^ 64 → P (Is n)) → P Not → P (spelled_by l)
+number_cases : (P : Option ℕ → Type 0) (l : List ℕ)
+    → ((n : ℕ) → l ≡ decimal n → n < 2 ^ 64 → P (Some n)) → P None → P (spelled_by l)
 number_cases P l is not = go (spelled_by l) refl
   where
-    go : (r : Number) → spelled_by l ≡ r → P r
-    go (Is n) e = let q = number_read l n e in is n q.0 q.1
-    go Not e = not
+    go : (r : Option ℕ) → spelled_by l ≡ r → P r
+    go (Some n) e = let q = number_read l n e in is n q.0 q.1
+    go None e = not
 
 until_found : (b : ℕ) (l : List ℕ) → until b l < length l → get_or l (until b l) 0 ≡ b
 unfolding until
@@ -99,8 +87,8 @@ until_found b (x ∷ l) h = go (eqb x b) refl h (until_found b l)
     go true e h ih = eqb-true x b e
     go false e h ih = ih (omega arith)
 
-pair_cases : (P : Pair → Type 0) (l : List ℕ) (at : ℕ)
-    → ((k v : ℕ) → drop at l ≡ decimal k ++ 9 ∷ decimal v → k < 2 ^ 64 → v < 2 ^ 64 → P (Both k v)) → P no-pair
+pair_cases : (P : Option (ℕ × ℕ) → Type 0) (l : List ℕ) (at : ℕ)
+    → ((k v : ℕ) → drop at l ≡ decimal k ++ 9 ∷ decimal v → k < 2 ^ 64 → v < 2 ^ 64 → P (Some (k, v))) → P None
     → P (pair_at l at)
 pair_cases P l at both_read not =
     number_cases (λ n. P (pair_from l (field_of n (at + e)))) (take e r)
@@ -132,55 +120,47 @@ begins_read (a ∷ w) (b ∷ l) e = go (eqb b a) refl e (begins_read w l)
     go false eb e ih = differ (sym e)
 
 -- c is no command, or is the one that the line spells
-Spelled : List ℕ → Command → Type 0
-Spelled line c = c ≢ Malformed → (spelling c ≡ some line) × InRange c
+Spelled : List ℕ → Option Command → Type 0
+Spelled line None = Unit {0}
+Spelled line (Some c) = (spelling c ≡ line) × InRange c
 
 read_spelled : (line : List ℕ) → Spelled line (parse_of line)
 unfolding parse_of Spelled
 read_spelled line =
     test (begins (tabbed put_word) line) _ _
-    (λ b. pair_cases (λ p. Spelled line (as_put p)) line 4 (λ k v e hk hv _. (whole (tabbed put_word) b e, (hk, hv))) not)
+    (λ b. pair_cases (λ p. Spelled line (of_pair Put p)) line 4 (λ k v e hk hv. (whole (tabbed put_word) b e, (hk, hv))) tt)
     (λ _. test (begins (tabbed set_word) line) _ _
-    (λ b. pair_cases (λ p. Spelled line (as_set p)) line 4 (λ k v e hk hv _. (whole (tabbed set_word) b e, (hk, hv))) not)
+    (λ b. pair_cases (λ p. Spelled line (of_pair Set p)) line 4 (λ k v e hk hv. (whole (tabbed set_word) b e, (hk, hv))) tt)
     (λ _. test (begins (tabbed del_word) line) _ _
-    (λ b. number_cases (λ n. Spelled line (as_del n)) (drop 4 line) (λ k e hk _. (whole (tabbed del_word) b e, hk)) not)
+    (λ b. number_cases (λ n. Spelled line (of_key Del n)) (drop 4 line) (λ k e hk. (whole (tabbed del_word) b e, hk)) tt)
     (λ _. test (begins (tabbed get_word) line) _ _
-    (λ b. number_cases (λ n. Spelled line (as_get n)) (drop 4 line) (λ k e hk _. (whole (tabbed get_word) b e, hk)) not)
+    (λ b. number_cases (λ n. Spelled line (of_key Get n)) (drop 4 line) (λ k e hk. (whole (tabbed get_word) b e, hk)) tt)
     (λ _. test (eqb (length line) 4) _ _
-    (λ four. test (begins list_word line) _ _ (λ b _. (whole list_word b (drop_all four), tt)) (λ _. not)) (λ _. not)))))
+    (λ four. test (begins list_word line) _ _ (λ b. (whole list_word b (drop_all four), tt)) (λ _. tt)) (λ _. tt)))))
   where
-    test : (t : Bool) (a b : Command) → (t ≡ true → Spelled line a) → (t ≡ false → Spelled line b) → Spelled line (cond t a b)
+    test : (t : Bool) (a b : Option Command) → (t ≡ true → Spelled line a) → (t ≡ false → Spelled line b)
+        → Spelled line (cond t a b)
     test t a b = by_test (λ x. Spelled line (cond x a b)) t
 
-    not : Spelled line Malformed
-    not no-command = absurd (no-command refl)
-
-    whole : (w : List ℕ) {m : List ℕ} → begins w line ≡ true → drop (length w) line ≡ m → some (w ++ m) ≡ some line
-    whole w b e = ap some (sym (begins_read w line b ∙ ap (λ (x : List ℕ). w ++ x) e))
+    whole : (w : List ℕ) {m : List ℕ} → begins w line ≡ true → drop (length w) line ≡ m → w ++ m ≡ line
+    whole w b e = sym (begins_read w line b ∙ ap (λ (x : List ℕ). w ++ x) e)
 
     drop_all : eqb (length line) 4 ≡ true → drop 4 line ≡ []
     drop_all four = let h : length line ≤ 4 = omega (arith, eqb-true (length line) 4 four) in drop_of_length-le line h
 
 -- a line is read as a command exactly when its bytes are the command's spelling
-pub exactly : (line : List ℕ) (c : Command) → c ≢ Malformed → (parse_of line ≡ c) ↔ ((spelling c ≡ some line) × InRange c)
+pub exactly : (line : List ℕ) (c : Command) → (parse_of line ≡ Some c) ↔ ((spelling c ≡ line) × InRange c)
 unfolding Spelled
-exactly line c command = (λ e. subst (Spelled line) e (read_spelled line) command, λ s. spelled_read line c s.0 s.1)
-
--- "Anything else .. is malformed": a line is malformed exactly when it is no command's spelling
-pub malformed : (line : List ℕ) → (parse_of line ≡ Malformed) ↔ ((c : Command) → spelling c ≡ some line → InRange c → ⊥)
-unfolding Spelled
-malformed line = (
-  λ e c s h. nothing (subst (λ (x : Command). spelling x ≡ some line) (sym (spelled_read line c s h) ∙ e) s),
-  λ f. other f (parse_of line) (read_spelled line),
+exactly line c = (
+  λ e. subst (Spelled line) e (read_spelled line),
+  λ s. subst (λ (x : List ℕ). parse_of x ≡ Some c) s.0 (spelled_read c s.1),
 )
-  where
-    nothing : none ≡ some line → ⊥
-    nothing e = never cc
 
-    other : ((c : Command) → spelling c ≡ some line → InRange c → ⊥) → (c : Command) → Spelled line c → c ≡ Malformed
-    other f Malformed s = refl
-    other f (Put k v) s = let q = s (λ e. never cc) in absurd (f (Put k v) q.0 q.1)
-    other f (Set k v) s = let q = s (λ e. never cc) in absurd (f (Set k v) q.0 q.1)
-    other f (Del k) s = let q = s (λ e. never cc) in absurd (f (Del k) q.0 q.1)
-    other f (Get k) s = let q = s (λ e. never cc) in absurd (f (Get k) q.0 q.1)
-    other f Listing s = let q = s (λ e. never cc) in absurd (f Listing q.0 q.1)
+-- "Anything else .. is malformed": a line is malformed, read as no command, exactly when it is no command's spelling
+pub malformed : (line : List ℕ) → (parse_of line ≡ None) ↔ ((c : Command) → spelling c ≡ line → InRange c → ⊥)
+unfolding Spelled
+malformed line = (λ e c s h. let some = (exactly line c).1 (s, h) in never cc, λ f. other f (parse_of line) (read_spelled line))
+  where
+    other : ((c : Command) → spelling c ≡ line → InRange c → ⊥) → (r : Option Command) → Spelled line r → r ≡ None
+    other f None s = refl
+    other f (Some c) s = absurd (f c s.0 s.1)

@@ -1,14 +1,10 @@
 -- Reading line after line visits the lines of the input, all of them and in order.
-use Rattle.std.specs.Prelude.{◌≡◌, refl, Bool, true, false, cond, List, [], ◌∷◌, map, ℕ, suc, ◌+◌, ◌≤◌, ◌<◌, eqb, ltb, length, take, drop}
-use Rattle.std.proofs.Common.{ap, ◌∙◌, not-suc-le-zero, arith, lt-ltb, le-ltb, ltb-true, length-drop, drop_of_length-le, drop-drop}
+use Rattle.std.specs.Prelude.{◌≡◌, refl, Bool, true, false, cond, List, [], ◌∷◌, map, ℕ, suc, ◌+◌, ◌≤◌, ◌<◌, eqb, length, take, drop, Option, Some, None}
+use Rattle.std.proofs.Common.{ap, ◌∙◌, not-suc-le-zero, arith, lt-ltb, le-ltb, length-drop, drop_of_length-le, drop-drop}
 use Rattle.std.proofs.Math.Decide.{dec_lt}
-use Rattle.words.specs.Bools.{never}
 use Rattle.command.specs.Spelling.{onto, before, lines_in}
 use Rattle.command.specs.Reading.{until, parse_of, past_line, line_at}
-use Rattle.command.proofs.ReadingLaws.{until_within}
 use Rattle.command.specs.declared.Command.{Command}
-use Rattle.command.specs.declared.Next.{Next}
-use Rattle.command.specs.declared.Next.TheVariants.{Line, End}
 
 -- an input that is not empty has a first line, up to its first byte 10, and the lines behind that
 first_line : (l : List ℕ) → 0 < length l → lines_in l ≡ take (until 10 l) l ∷ lines_in (drop (suc (until 10 l)) l)
@@ -27,13 +23,13 @@ first_line (b ∷ c ∷ l) h = go (eqb b 10) (until 10 (c ∷ l)) (first_line (c
     go true n ih = refl
     go false n ih = ap (onto b) ih
 
--- the commands of the lines from a place on, ..
-abbrev pub commands_from : List ℕ → ℕ → List Command
+-- the commands of the lines from a place on, none for a malformed one, ..
+abbrev pub commands_from : List ℕ → ℕ → List (Option Command)
 commands_from l at = map parse_of (lines_in (drop at l))
 
-abbrev pub continues : List ℕ → Next → List Command
-continues l (Line c next) = c ∷ commands_from l next
-continues l End = []
+abbrev pub continues : List ℕ → Option (Option Command × ℕ) → List (Option Command)
+continues l (Some line) = line.0 ∷ commands_from l line.1
+continues l None = []
 
 -- .. are the command that is read there and those from the next place on, or none at the end
 pub line_step : (l : List ℕ) (at : ℕ) → commands_from l at ≡ continues l (line_at l at)
@@ -53,18 +49,3 @@ line_step l at =
         let e : at + suc (until 10 r) ≡ past_line (at + until 10 r) = omega arith in
         ap (λ (k : List ℕ). take (until 10 r) r ∷ lines_in k)
         (drop-drop (suc (until 10 r)) at l ∙ ap (λ (i : ℕ). drop i l) e)
-
--- the next place is further on, and at most one behind the end
-pub line_later : (l : List ℕ) (at : ℕ) (c : Command) (next : ℕ) → line_at l at ≡ Line c next
-    → (at < next) × (next ≤ length l + 1)
-unfolding line_at
-line_later l at c next e = go (ltb at (length l)) refl e
-  where
-    go : (t : Bool) → ltb at (length l) ≡ t
-        → cond t (Line (parse_of (take (until 10 (drop at l)) (drop at l))) (past_line (at + until 10 (drop at l)))) End
-        ≡ Line c next
-        → (at < next) × (next ≤ length l + 1)
-    go true t e =
-        let z : past_line (at + until 10 (drop at l)) ≡ next = cc in
-        omega (arith, until_within 10 l at (omega (arith, ltb-true at (length l) t)))
-    go false t e = never cc

@@ -1,9 +1,8 @@
 -- Document 01, "The bench program": the lines of an input, and the spelling of a command.
 use Rattle.std.specs.Prelude.{ℕ, ◌^◌, ◌<◌, Bool, true, false, List, [], ◌∷◌, ◌++◌, eqb}
-use Rattle.std.proofs.Math.Option.{Option, some, none}
 use Rattle.number.specs.Decimal.{decimal}
 use Rattle.command.specs.declared.Command.{Command}
-use Rattle.command.specs.declared.Command.TheVariants.{Put, Set, Del, Get, List as Listing, Malformed}
+use Rattle.command.specs.declared.Command.TheVariants.{Put, Set, Del, Get, List as Listing}
 
 -- "One command a line, lines ended by byte 10 alone" and "A last line without its line end counts": a byte stands in
 -- front of the first of the lines behind it, ..
@@ -43,13 +42,12 @@ abbrev pub list_word : List ℕ
 list_word = 108 ∷ 105 ∷ 115 ∷ 116 ∷ []
 
 -- "put and set take key and value, del and get a key, list nothing": the one line that says a command
-abbrev pub spelling : Command → Option (List ℕ)
-spelling (Put k v) = some (parted (put_word ∷ decimal k ∷ decimal v ∷ []))
-spelling (Set k v) = some (parted (set_word ∷ decimal k ∷ decimal v ∷ []))
-spelling (Del k) = some (parted (del_word ∷ decimal k ∷ []))
-spelling (Get k) = some (parted (get_word ∷ decimal k ∷ []))
-spelling Listing = some (parted (list_word ∷ []))
-spelling Malformed = none
+abbrev pub spelling : Command → List ℕ
+spelling (Put k v) = parted (put_word ∷ decimal k ∷ decimal v ∷ [])
+spelling (Set k v) = parted (set_word ∷ decimal k ∷ decimal v ∷ [])
+spelling (Del k) = parted (del_word ∷ decimal k ∷ [])
+spelling (Get k) = parted (get_word ∷ decimal k ∷ [])
+spelling Listing = parted (list_word ∷ [])
 
 -- "Anything else, an empty line or a number above 2^64 − 1 included, is malformed": the numbers that a command may hold
 abbrev pub InRange : Command → Type 0
@@ -58,4 +56,3 @@ InRange (Set k v) = (k < 2 ^ 64) × (v < 2 ^ 64)
 InRange (Del k) = k < 2 ^ 64
 InRange (Get k) = k < 2 ^ 64
 InRange Listing = Unit
-InRange Malformed = Unit

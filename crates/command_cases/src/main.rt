@@ -2,52 +2,31 @@
 // kind (1 put, 2 set, 3 del, 4 get, 5 list, 9 malformed), key and value; behind the last line how many lines and bytes.
 #![tactic(auto)]
 
-use command::{Command, Next};
+use command::Command;
 use std::io;
-use std::io::Write;
 
-fn field(rt: &impl Print, n: u64, mark: &[u8]) -> io::Result<()> {
-    print!(rt; "{n}")?;
-    io::writer(rt).write_all(mark)
-}
-
-fn tell(rt: &impl Print, line: u64, kind: u64, key: u64, value: u64) -> io::Result<()> {
-    field(rt, line, b"\t")?;
-    field(rt, kind, b"\t")?;
-    field(rt, key, b"\t")?;
-    field(rt, value, b"\n")
-}
-
-fn tell_command(rt: &impl Print, line: u64, command: Command) -> io::Result<()> {
-    match command {
-        Command::Put(key, value) => tell(rt, line, 1, key, value),
-        Command::Set(key, value) => tell(rt, line, 2, key, value),
-        Command::Del(key) => tell(rt, line, 3, key, 0),
-        Command::Get(key) => tell(rt, line, 4, key, 0),
-        Command::List => tell(rt, line, 5, 0, 0),
-        Command::Malformed => tell(rt, line, 9, 0, 0),
-    }
-}
-
-fn tell_counts(rt: &impl Print, lines: u64, bytes: u64) -> io::Result<()> {
-    field(rt, lines, b"\t")?;
-    field(rt, bytes, b"\n")
+fn tell(rt: &impl Print, line: u64, command: Option<Command>) -> io::Result<()> {
+    let (kind, key, value): (u8, u64, u64) = match command {
+        Some(Command::Put(key, value)) => (1, key, value),
+        Some(Command::Set(key, value)) => (2, key, value),
+        Some(Command::Del(key)) => (3, key, 0),
+        Some(Command::Get(key)) => (4, key, 0),
+        Some(Command::List) => (5, 0, 0),
+        None => (9, 0, 0),
+    };
+    println!(rt; "{line}\t{kind}\t{key}\t{value}")
 }
 
 fn read_all(rt: &impl Print, input: &[u8]) -> io::Result<()> {
     let mut at = 0;
     let mut lines = 0;
-    loop {
-        match command::read_line(input, at) {
-            Next::Line(command, next) => {
-                lines += 1;
-                tell_command(rt, lines, command)?;
-                at = next;
-            }
-            Next::End => break,
-        }
+    while let Some((command, next)) = command::read_line(input, at) {
+        lines += 1;
+        tell(rt, lines, command)?;
+        at = next;
     }
-    tell_counts(rt, lines, input.len() as u64)
+    let bytes = input.len();
+    println!(rt; "{lines}\t{bytes}")
 }
 
 fn main(rt: HostRuntime) -> io::Result<()> {

@@ -3,4 +3,4 @@
 #![tactic(auto)]
 
 mod inside;
-mod outside;
+pub mod outside;

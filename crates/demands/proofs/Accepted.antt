@@ -1,6 +1,7 @@
 -- An accepted call has passed its table's rows; so the image is sound, the target leaf is the survey's, and the list made is one
 -- that `lists` serves.
-use Rattle.std.specs.Prelude.{◌≡◌, refl, Bool, true, false, cond, not, List, [], ◌∷◌, ◌++◌, ◌≢◌, ℕ, ◌^◌, ◌≤◌, ◌<◌, length}
+use Rattle.std.specs.Prelude.{◌≡◌, refl, Bool, true, false, cond, not, List, [], ◌∷◌, ◌++◌, ◌≢◌, ℕ, ◌^◌, ◌≤◌, ◌<◌, length, Option, Some, None}
+use Rattle.std.specs.Option.{unwrap_or}
 use Rattle.std.proofs.Common.{sym, ap, ◌∙◌, subst, arith, ltb-false, eq-eqb, ne_eqb}
 use Rattle.std.proofs.lemmas.Bool.{not-false}
 use Rattle.words.specs.Words.{reads}
@@ -9,8 +10,6 @@ use Rattle.words.specs.Bools.{both, differ}
 use Rattle.leaf.specs.Leaf.{Leaf, view}
 use Rattle.leaf.specs.Search.{count}
 use Rattle.leaf.proofs.SearchLaws.{slot_at, slot_missing}
-use Rattle.leaf.specs.declared.search.Slot.{Slot}
-use Rattle.leaf.specs.declared.search.Slot.TheVariants.{At, Missing}
 use Rattle.steps.specs.declared.Step.{Step}
 use Rattle.steps.specs.Model.{rule01}
 use Rattle.steps.proofs.Rules.{lawful01}
@@ -37,13 +36,12 @@ use Rattle.lists.specs.SetDel.{Behind}
 use Rattle.lists.proofs.ServedCalls.{set_call, del_call, put_call}
 use Rattle.lists.proofs.Sizes.{set_size, del_size, put_size}
 use Rattle.lists.specs.Bytes.{ServedBytes}
-use Rattle.writing.specs.Writing.{target_of, before_of, place_of, free_of, is_missing, is_full, block_or0}
+use Rattle.writing.specs.Writing.{target_of, before_of, place_of, free_of, is_full}
 use Rattle.writing.specs.Writing.{outcome, short_list, change_table, at_slot, set_of, del_of, put_of}
 use Rattle.writing.proofs.ChangeLaws.{noted_target, noted_before, noted_value}
 use Rattle.demands.proofs.Free.{free_lowest}
 use Rattle.std.specs.Prelude.{◌≡◌, true, false, List, ◌∷◌, ◌++◌, ◌≢◌, ℕ, ◌≤◌, length}
 use Rattle.leaf.specs.Leaf.{Taken}
-use Rattle.leaf.specs.declared.search.Slot.TheVariants.{At}
 use Rattle.steps.specs.Refusals.{bad_image}
 use Rattle.image.specs.Chain.{Sound}
 use Rattle.image.specs.Map.{Entry, lookup}
@@ -118,17 +116,17 @@ is_full_lem w b e = eq-eqb (count (view w b)) (view w b).size (e ∙ sym (view_s
 -- the slot of a key that is there
 record Held (l : List ℕ) (k : ℕ) : Type 0 where
   slot : ℕ
-  at : place_of l k ≡ At slot
+  at : place_of l k ≡ Some slot
   taken : Taken (leaves l (target_of l k)) slot
   key : (leaves l (target_of l k)).key slot ≡ k
 
 held : (l : List ℕ) (k : ℕ) → Judged l k → is_none (lookup k (entries_in l)) ≡ false → Held l k
 held l k J e = go (place_of l k) refl (ap is_none J.value ∙ e)
   where
-    go : (x : Slot) → place_of l k ≡ x → is_none (value_at (leaves l (target_of l k)) x) ≡ false → Held l k
-    go (At s) q z =
+    go : (x : Option ℕ) → place_of l k ≡ x → is_none (value_at (leaves l (target_of l k)) x) ≡ false → Held l k
+    go (Some s) q z =
         let r = slot_at (leaves l (target_of l k)) k s q in record { slot = s; at = q; taken = r.1.taken; key = r.1.key }
-    go Missing q z = differ z
+    go None q z = differ z
 
 unlinks : (w : ℕ → ℕ) (p b s : ℕ) → b ≢ 0 → count (view w b) ≡ 1 → del_list w p b s ≡ unlink_list w p b
 unfolding del_list is_alone
@@ -171,7 +169,7 @@ module _ (l list : List ℕ) (k : ℕ) (bytes : Bytes l) where
         served = served_as (put_in k v) J.chain
             (set_call rule01 lawful01 l (good_length l r.0) bytes J.front b J.behind J.sound k h.slot h.taken
             h.key v small);
-        told = told_as list e (ap (λ (x : Slot). at_slot x (λ s. set_list b s v)) h.at);
+        told = told_as list e (ap (λ (x : Option ℕ). at_slot x (λ s. set_list b s v)) h.at);
       }
 
   pub del_accepted : (del_of l list k).answer ≡ 0 → Accepted l list (del_of l list k) (without k (entries_in l)) 7
@@ -191,7 +189,7 @@ module _ (l list : List ℕ) (k : ℕ) (bytes : Bytes l) where
         served = served_as (without k) J.chain
             (del_call rule01 lawful01 l (good_length l r.0) bytes J.front b J.behind J.sound k h.slot h.taken
             h.key (before_of l k) J.before);
-        told = told_as list e (ap (λ (x : Slot). at_slot x (λ s. del_list (reads l) (before_of l k) b s)) h.at);
+        told = told_as list e (ap (λ (x : Option ℕ). at_slot x (λ s. del_list (reads l) (before_of l k) b s)) h.at);
       }
 
   -- the only entry of a leaf other than block 0
@@ -209,23 +207,23 @@ module _ (l list : List ℕ) (k : ℕ) (bytes : Bytes l) where
           (all_split (Good (leaves l) (blocks l)) J.front (target_of l k ∷ J.behind)
           (sound_good (leaves l) (blocks l) J.sound)).1.0
 
-      go : (x : Slot) → place_of l k ≡ x → is_none (value_at (leaves l (target_of l k)) x) ≡ true → ⊥
-      go (At s) q z = differ (sym z)
-      go Missing q z = slot_missing (leaves l (target_of l k)) g.right k q i.at i.taken i.key_is
+      go : (x : Option ℕ) → place_of l k ≡ x → is_none (value_at (leaves l (target_of l k)) x) ≡ true → ⊥
+      go (Some s) q z = differ (sym z)
+      go None q z = slot_missing (leaves l (target_of l k)) g.right k q i.at i.taken i.key_is
 
   abbrev wanting : Bool
-  wanting = both (is_full (leaves l (target_of l k))) (is_missing (free_of l))
+  wanting = both (is_full (leaves l (target_of l k))) (is_none (free_of l))
 
   -- a full target leaf has a free block
   spare : (J : Judged l k) → wanting ≡ false → count (leaves l (target_of l k)) ≡ 14
-      → LowestFree (blocks l) (J.front ++ (target_of l k ∷ J.behind)) (block_or0 (free_of l))
+      → LowestFree (blocks l) (J.front ++ (target_of l k ∷ J.behind)) (unwrap_or (free_of l) 0)
   spare J e full =
-      go (free_of l) refl (sym (ap (λ (b : Bool). both b (is_missing (free_of l))) (is_full_lem (reads l) (target_of l k) full)) ∙ e)
+      go (free_of l) refl (sym (ap (λ (b : Bool). both b (is_none (free_of l))) (is_full_lem (reads l) (target_of l k) full)) ∙ e)
     where
-      go : (x : Slot) → free_of l ≡ x → is_missing x ≡ false
-          → LowestFree (blocks l) (J.front ++ (target_of l k ∷ J.behind)) (block_or0 x)
-      go (At c) q z = subst (λ (bs : List ℕ). LowestFree (blocks l) bs c) J.chain (free_lowest l c q)
-      go Missing q z = differ z
+      go : (x : Option ℕ) → free_of l ≡ x → is_none x ≡ false
+          → LowestFree (blocks l) (J.front ++ (target_of l k ∷ J.behind)) (unwrap_or x 0)
+      go (Some c) q z = subst (λ (bs : List ℕ). LowestFree (blocks l) bs c) J.chain (free_lowest l c q)
+      go None q z = differ z
 
   pub put_accepted : (v : ℕ) → k < 2 ^ 64 → v < 2 ^ 64 → (put_of l list k v).answer ≡ 0
       → Accepted l list (put_of l list k v) (put_in k v (entries_in l)) 20
@@ -234,7 +232,7 @@ module _ (l list : List ℕ) (k : ℕ) (bytes : Bytes l) where
       let r = rows (cond (not (is_none (lookup k (entries_in l)))) 4 (cond wanting 6 0)) e in
       let J = judged l k r.0 r.2 in
       let b = target_of l k in
-      let c = block_or0 (free_of l) in
+      let c = unwrap_or (free_of l) 0 in
       let p = row_passed 4 (not (is_none (lookup k (entries_in l)))) (cond wanting 6 0) (omega arith) r.3 in
       let f = (row_passed 6 wanting 0 (omega arith) p.1).0 in
       record {

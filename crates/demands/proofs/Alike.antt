@@ -1,7 +1,6 @@
 -- "Two sound images alike in length, chain, occupied slots and entries give equal find, listing, recovery answers and refusals."
-use Rattle.std.specs.Prelude.{◌≡◌, refl, Bool, false, cond, not, List, [], ◌∷◌, ℕ, ◌/◌, leb, eqb, length}
+use Rattle.std.specs.Prelude.{◌≡◌, refl, Bool, false, cond, not, List, [], ◌∷◌, ℕ, ◌/◌, leb, eqb, length, Option, Some, None}
 use Rattle.std.proofs.Common.{sym, ap, ◌∙◌, subst}
-use Rattle.std.proofs.Math.Option.{Option, some, none}
 use Rattle.words.specs.Bools.{both, by_test}
 use Rattle.words.specs.Below.{count_below}
 use Rattle.words.specs.BelowLaws.{count_cong}
@@ -24,7 +23,7 @@ use Rattle.index.specs.Agreement.{found_in}
 use Rattle.index.proofs.Agreement.{find_accepted}
 use Rattle.index.proofs.AlikeReading.{same_bad, first_sound, second_sound, chain_first, same_chain}
 use Rattle.index.proofs.AlikeReading.{alike_find, alike_listing, alike_recovery}
-use Rattle.writing.specs.Writing.{target_of, free_of, is_among, is_missing, is_full, short_list, put_table, change_table}
+use Rattle.writing.specs.Writing.{target_of, free_of, is_among, is_full, short_list, put_table, change_table}
 use Rattle.demands.proofs.Accepted.{judged}
 use Rattle.demands.specs.Calls.{Asked, find, listing, recovery, put, set, del, run, cut, Result, Allowed}
 use Rattle.demands.specs.Calls.{Told, tells, told, table}
@@ -65,8 +64,8 @@ module _ (l m : List ℕ) (a : Alike l m) (fine : bad_image (length l) ≡ false
       (sym (find_accepted m (same_bad a ∙ fine) (second_sound a) k) ∙ alike_find l m a k ∙ find_accepted l fine (first_sound a) k)
     where
       absent : (v : Option ℕ) → is_none v ≡ eqb (found_in v).answer 5
-      absent (some v) = refl
-      absent none = refl
+      absent (Some v) = refl
+      absent None = refl
 
       by : (v w : Option ℕ) → found_in v ≡ found_in w → is_none v ≡ is_none w
       by v w e = absent v ∙ ap (λ (t : Found). eqb t.answer 5) e ∙ sym (absent w)
@@ -96,7 +95,7 @@ module _ (l m : List ℕ) (a : Alike l m) (fine : bad_image (length l) ≡ false
   put_same list k = λ i.
       answer
       ((1, bad_image (a.long i)) ∷ (2, short_list list) ∷ (3, not (same_sound i)) ∷ (4, not (same_none k i))
-      ∷ (6, both (same_full k i) (is_missing (same_free i))) ∷ [])
+      ∷ (6, both (same_full k i) (is_none (same_free i))) ∷ [])
 
   change_same : (list : List ℕ) (k : ℕ) → answer (change_table m list k) ≡ answer (change_table l list k)
   change_same list k = λ i.

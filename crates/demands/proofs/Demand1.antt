@@ -12,6 +12,8 @@ use Rattle.image.specs.Chain.{All}
 use Rattle.machine.specs.Taking.{run_table, cut_table}
 use Rattle.index.specs.Reading.{find_of, Listing, listing_of, counted, listing_is, Recovery, recovery_of, sizes, recovery_is}
 use Rattle.index.specs.Reading.{find_table, listing_table, recovery_table}
+use Rattle.std.specs.Prelude.{Result as Answered}
+use Rattle.steps.specs.declared.refusal.Refusal.{Refusal}
 use Rattle.writing.specs.declared.Made.{Made}
 use Rattle.writing.specs.Writing.{Outcome, outcome, made_as, put_of, set_of, del_of, put_table, change_table}
 use Rattle.demands.specs.Calls.{Asked, find, listing, recovery, put, set, del, run, cut, Result, Allowed}
@@ -112,7 +114,7 @@ answers (cut image list n arrivals) r p = p.0
 abbrev Nothing : (asked : Asked) → Result asked → Type 0
 Nothing asked r = All (λ n. n ≡ 0) (told asked r).counts × ((told asked r).buffers ≡ lent asked)
 
-made_nothing : (n : ℕ) (t : List Step) (list : List ℕ) (r : Made × List ℕ) → made_as r.0 r.1 ≡ outcome n t list → n ≢ 0
+made_nothing : (n : ℕ) (t : List Step) (list : List ℕ) (r : Answered Made Refusal × List ℕ) → made_as r.0 r.1 ≡ outcome n t list → n ≢ 0
     → All (λ n. n ≡ 0) (made r.0 r.1).counts × ((made r.0 r.1).buffers ≡ list ∷ [])
 made_nothing n t list r p ne = (
   (

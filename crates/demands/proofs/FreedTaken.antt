@@ -1,9 +1,8 @@
 -- The freed block is free after the del (Freed), and the next split takes the lowest free block.
-use Rattle.std.specs.Prelude.{◌≡◌, ◌≢◌, List, ℕ, ◌/◌, ◌≤◌}
+use Rattle.std.specs.Prelude.{◌≡◌, ◌≢◌, List, ℕ, ◌/◌, ◌≤◌, Some}
 use Rattle.std.proofs.Common.{arith, ap}
 use Rattle.words.specs.WordLaws.{Bytes}
 use Rattle.leaf.specs.Search.{count}
-use Rattle.leaf.specs.declared.search.Slot.TheVariants.{At}
 use Rattle.image.specs.Chain.{LowestFree}
 use Rattle.image.specs.Image.{blocks, leaves}
 use Rattle.image.proofs.ImageLaws.{good_length}
@@ -25,7 +24,7 @@ module _ (l list : List ℕ) (k : ℕ) (bytes : Bytes l) (e : (del_of l list k).
   m = ran l (del_of l list k)
 
   -- THE STATEMENT: the next split takes the freed block, or a lower one that is free too
-  pub freed_taken : (c : ℕ) × (free_of m ≡ At c) × LowestFree (blocks m) (chain_of m) c × (c ≤ b)
+  pub freed_taken : (c : ℕ) × (free_of m ≡ Some c) × LowestFree (blocks m) (chain_of m) c × (c ≤ b)
   freed_taken =
       let A = del_accepted l list k bytes e in
       let J = judged l k A.fine A.sound in

@@ -1,5 +1,6 @@
 -- The theorems: of each file of specs/ that has one, under its name. Sentences, Free, Accepted and Carried join the calls' contracts
 -- with what the crates below prove.
+pub mod Numbers
 pub mod Unique
 pub mod UniqueOutside
 pub mod Sentences

@@ -7,9 +7,9 @@ use Rattle.image.specs.Map.{Entry}
 use Rattle.index.specs.Reading.{entries_in, listing_table}
 use Rattle.writing.specs.Writing.{put_table, change_table, put_of, set_of, del_of}
 use Rattle.command.specs.declared.Command.{Command}
-use Rattle.command.specs.declared.Command.TheVariants.{Put, Set, Del, Get, List as Listing, Malformed}
+use Rattle.command.specs.declared.Command.TheVariants.{Put, Set, Del, Get, List as Listing}
 use Rattle.perform.specs.Perform.{room, row, refused, performed}
-use Rattle.std.specs.Prelude.{Bool, List, [], ◌∷◌, ◌≢◌, ℕ, length}
+use Rattle.std.specs.Prelude.{Bool, List, [], ◌∷◌, ◌≢◌, ℕ, length, Option, Some, None}
 
 -- a table of other numbers does not answer n
 abbrev Without : ℕ → List (ℕ × Bool) → Type 0
@@ -36,15 +36,15 @@ narrow true [] e = omega arith
 narrow true (x ∷ es) e = omega arith
 narrow false es e = omega arith
 
-pub only_malformed : (c : Command) (image : List ℕ) → (performed c image).printed ≡ refused 9 → c ≡ Malformed
+pub only_malformed : (c : Option Command) (image : List ℕ) → (performed c image).printed ≡ refused 9 → c ≡ None
 unfolding performed put_of set_of del_of
-only_malformed (Put k v) image e =
+only_malformed (Some (Put k v)) image e =
     absurd (other_answer 9 (put_table image room k)
     (omega arith, (omega arith, (omega arith, (omega arith, (omega arith, omega arith))))) (ap lead e))
-only_malformed (Set k v) image e =
+only_malformed (Some (Set k v)) image e =
     absurd (other_answer 9 (change_table image room k) (omega arith, (omega arith, (omega arith, (omega arith, omega arith)))) (ap lead e))
-only_malformed (Del k) image e =
+only_malformed (Some (Del k)) image e =
     absurd (other_answer 9 (change_table image room k) (omega arith, (omega arith, (omega arith, (omega arith, omega arith)))) (ap lead e))
-only_malformed (Get k) image e = absurd (let z : ◌≡◌ {A = ℕ} 2 4 = ap width e in omega arith)
-only_malformed Listing image e = absurd (narrow (eqb (answer (listing_table image)) 0) (entries_in image) (ap width e))
-only_malformed Malformed image e = refl
+only_malformed (Some (Get k)) image e = absurd (let z : ◌≡◌ {A = ℕ} 2 4 = ap width e in omega arith)
+only_malformed (Some Listing) image e = absurd (narrow (eqb (answer (listing_table image)) 0) (entries_in image) (ap width e))
+only_malformed None image e = refl

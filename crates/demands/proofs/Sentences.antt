@@ -1,7 +1,6 @@
 -- The test in each row of the calls' tables is document 01's sentence, where the rows before it are passed.
-use Rattle.std.specs.Prelude.{◌≡◌, refl, Bool, true, false, cond, not, ◌||◌, List, [], ◌∷◌, ◌⊎◌, ℕ, ◌+◌, ◌*◌, ◌/◌, ◌%◌, ◌≤◌, ◌<◌, ltb, eqb, length, get_or}
+use Rattle.std.specs.Prelude.{◌≡◌, refl, Bool, true, false, cond, not, ◌||◌, List, [], ◌∷◌, ◌⊎◌, ℕ, ◌+◌, ◌*◌, ◌/◌, ◌%◌, ◌≤◌, ◌<◌, ltb, eqb, length, get_or, Option, Some, None}
 use Rattle.std.proofs.Common.{sym, ap, ◌∙◌, subst, inl, inr, arith, ltb-true, lt-ltb, eqb-true, eq-eqb}
-use Rattle.std.proofs.Math.Option.{Option, some, none}
 use Rattle.std.proofs.lemmas.Bool.{not-true, not-false}
 use Rattle.words.specs.Words.{reads}
 use Rattle.words.specs.Bools.{both, both_true, by_test, differ, not_so, or_true, or_right}
@@ -10,8 +9,6 @@ use Rattle.words.specs.BelowLaws.{any_make, any_at, count_all, count_less}
 use Rattle.leaf.specs.Leaf.{Leaf, Taken}
 use Rattle.leaf.specs.Search.{count}
 use Rattle.leaf.proofs.SearchLaws.{lowest_at, lowest_none}
-use Rattle.leaf.specs.declared.search.Slot.{Slot}
-use Rattle.leaf.specs.declared.search.Slot.TheVariants.{At, Missing}
 use Rattle.steps.specs.Model.{line, made, rule01, settled}
 use Rattle.steps.specs.Encoding.{second, well_formed, step_at, formed_at}
 use Rattle.steps.proofs.EncodingLaws.{words_formed, pair_of}
@@ -25,7 +22,7 @@ use Rattle.image.specs.Image.{blocks, leaves, SoundImage}
 use Rattle.index.specs.Reading.{is_sound, chain_of, entries_in, is_none, is_short}
 use Rattle.index.proofs.SoundTest.{sound_test, test_sound, sound_chain, long_enough}
 use Rattle.index.proofs.Agreement.{entries_list}
-use Rattle.writing.specs.Writing.{target_of, free_of, is_among, is_missing, is_full}
+use Rattle.writing.specs.Writing.{target_of, free_of, is_among, is_full}
 use Rattle.demands.specs.Calls.{Asked, find, listing, recovery, put, set, del, run, cut, table}
 use Rattle.demands.specs.Conditions.{BadLength, Unsound, Present, Absent, Among, Full}
 use Rattle.demands.specs.Conditions.{Malformed, BadSteps, ShortBuffer, BadArrivals, conditions}
@@ -99,15 +96,15 @@ module _ (l : List ℕ) (fine : bad_image (length l) ≡ false) where
     four : Means (not (is_none (lookup k (entries_in l)))) (Present l k)
     four = (λ e. go (lookup k (entries_in l)) refl e, λ h. ap (λ (v : Option ℕ). not (is_none v)) (there h))
       where
-        there : (h : Present l k) → lookup k (entries_in l) ≡ some h.0
+        there : (h : Present l k) → lookup k (entries_in l) ≡ Some h.0
         there h =
             lookup_some k (entries_list l fine S) h.0
             (subst (λ (bs : List ℕ). Has (leaves l) bs k h.0) chain_is h.1)
 
         go : (v : Option ℕ) → lookup k (entries_in l) ≡ v → not (is_none v) ≡ true → Present l k
-        go (some v) q e =
+        go (Some v) q e =
             (v, subst (λ (bs : List ℕ). Has (leaves l) bs k v) (sym chain_is) (some_lookup k (entries_list l fine S) v q))
-        go none q e = differ (sym e)
+        go None q e = differ (sym e)
 
     five : Means (is_none (lookup k (entries_in l))) (Absent l k)
     five = let x = means_not _ four in (λ e. x.0 (ap (λ (b : Bool). not (not b)) e), λ f. not_not _ (x.1 f))
@@ -141,23 +138,23 @@ among_means b (x ∷ xs) = (
   ],
 )
 
-chained_means : (l : List ℕ) → Means (is_missing (free_of l)) ((b : ℕ) → b < blocks l → Among b (chain_of l))
+chained_means : (l : List ℕ) → Means (is_none (free_of l)) ((b : ℕ) → b < blocks l → Among b (chain_of l))
 chained_means l = (λ e b h. to (free_of l) refl e b h, λ f. back (free_of l) refl f)
   where
-    to : (x : Slot) → free_of l ≡ x → is_missing x ≡ true → (b : ℕ) → b < blocks l → Among b (chain_of l)
-    to (At c) q e b h = differ (sym e)
-    to Missing q e b h =
+    to : (x : Option ℕ) → free_of l ≡ x → is_none x ≡ true → (b : ℕ) → b < blocks l → Among b (chain_of l)
+    to (Some c) q e b h = differ (sym e)
+    to None q e b h =
         (among_means b (chain_of l)).0
         (not-false (is_among b (chain_of l))
         (lowest_none (λ b. not (is_among b (chain_of l))) (blocks l) 0 q b (omega arith) (omega arith)))
 
-    back : (x : Slot) → free_of l ≡ x → ((b : ℕ) → b < blocks l → Among b (chain_of l)) → is_missing x ≡ true
-    back (At c) q f =
+    back : (x : Option ℕ) → free_of l ≡ x → ((b : ℕ) → b < blocks l → Among b (chain_of l)) → is_none x ≡ true
+    back (Some c) q f =
         let r = lowest_at (λ b. not (is_among b (chain_of l))) (blocks l) 0 c q in
         differ (sym ((among_means c (chain_of l)).1 (f c (omega (arith, r.below)))) ∙ not-true (is_among c (chain_of l)) r.passes)
-    back Missing q f = refl
+    back None q f = refl
 
-six : (l : List ℕ) (k : ℕ) → Means (both (is_full (leaves l (target_of l k))) (is_missing (free_of l))) (Full l k)
+six : (l : List ℕ) (k : ℕ) → Means (both (is_full (leaves l (target_of l k))) (is_none (free_of l))) (Full l k)
 six l k = means_both _ _ (full_means l (target_of l k)) (chained_means l)
 
 -- the steps of an image that is not too long

@@ -1,10 +1,8 @@
 -- The public calls with their contracts, as one family: what is asked, the results that the contract allows, what a result tells,
 -- and document 01's refusals. To be believed.
-use Rattle.std.specs.Prelude.{◌≡◌, Bool, List, [], ◌∷◌, ℕ, length}
-use Rattle.machine.specs.declared.Ran.{Ran}
+use Rattle.std.specs.Prelude.{◌≡◌, Bool, List, [], ◌∷◌, ℕ, length, Result as Answered}
+use Rattle.steps.specs.declared.refusal.Refusal.{Refusal}
 use Rattle.machine.specs.Taking.{ran_as, run_of, cut_of, run_table, cut_table}
-use Rattle.index.specs.declared.find.Found.{Found}
-use Rattle.index.specs.declared.listing.Listed.{Listed}
 use Rattle.index.specs.declared.recovery.Recovered.{Recovered}
 use Rattle.index.specs.Reading.{found_as, find_of, find_table, listed_as, listing_is, listing_of, listing_table}
 use Rattle.index.specs.Reading.{recovered_as, recovery_is, recovery_of, recovery_table}
@@ -24,14 +22,14 @@ pub data Asked : Type 0 where
 
 -- the answer, and each buffer lent to be written as it is at the end
 abbrev pub Result : Asked → Type 0
-Result (find image key) = Found
-Result (listing image from keys values) = Listed × List ℕ × List ℕ
-Result (recovery image smallest numbers) = Recovered × List ℕ × List ℕ
-Result (put image list key value) = Made × List ℕ
-Result (set image list key value) = Made × List ℕ
-Result (del image list key) = Made × List ℕ
-Result (run image list n) = Ran × List ℕ
-Result (cut image list n arrivals) = Ran × List ℕ
+Result (find image key) = Answered ℕ Refusal
+Result (listing image from keys values) = Answered ℕ Refusal × List ℕ × List ℕ
+Result (recovery image smallest numbers) = Answered Recovered Refusal × List ℕ × List ℕ
+Result (put image list key value) = Answered Made Refusal × List ℕ
+Result (set image list key value) = Answered Made Refusal × List ℕ
+Result (del image list key) = Answered Made Refusal × List ℕ
+Result (run image list n) = Answered Unit Refusal × List ℕ
+Result (cut image list n arrivals) = Answered Unit Refusal × List ℕ
 
 -- The contracts, `ensures` for `ensures`, where r is the answer with each `x.new` behind it and the names of what was lent stand for
 -- `x.old`, or for `x.now` where it is only read. Of set: `made_as result list.new ≡ set_of image.now list.old key value`.
@@ -55,7 +53,7 @@ pub record Told : Type 0 where
 abbrev pub tells : ℕ → List ℕ → List (List ℕ) → Told
 tells number counts buffers = record { number = number; counts = counts; buffers = buffers }
 
-abbrev pub made : Made → List ℕ → Told
+abbrev pub made : Answered Made Refusal → List ℕ → Told
 made r list = let o = made_as r list in tells o.answer (o.steps ∷ o.lines ∷ o.words ∷ []) (o.list ∷ [])
 
 abbrev pub told : (asked : Asked) → Result asked → Told

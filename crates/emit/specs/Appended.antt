@@ -14,10 +14,6 @@ appended list i (x ∷ l) = appended (put_step list i x) (suc i) l
 abbrev pub Wrote : List ℕ → ℕ → List Step → List ℕ → ℕ → Type 0
 Wrote before at l behind r = (behind ≡ appended before at l) × (r ≡ length l) × (r ≤ 14)
 
-pub wrote_as : (before : List ℕ) (at : ℕ) (l m : List Step) (behind : List ℕ) (r : ℕ) → l ≡ m → Wrote before at l behind r
-    → Wrote before at m behind r
-wrote_as before at l m behind r e w = (w.0 ∙ ap (appended before at) e, w.1 ∙ ap (λ (k : List Step). length k) e, w.2)
-
 pub appended_length : (l : List Step) (list : List ℕ) (i : ℕ) → length (appended list i l) ≡ length list
 unfolding appended
 appended_length [] list i = refl
@@ -34,13 +30,9 @@ pub step_first : (list r : List ℕ) (i : ℕ) (x : Step) → r ≡ put_step lis
 unfolding appended
 step_first list r i x e = e
 
--- one step more, and one stretch more
-module _ (list m : List ℕ) (i j : ℕ) (k : List Step) (so_far : m ≡ appended list i k) (next : j ≡ i + length k) where
-  pub stretch_more : (r : List ℕ) (l : List Step) → r ≡ appended m j l → r ≡ appended list i (k ++ l)
-  stretch_more r l e = e ∙ ap (λ (z : List ℕ). appended z j l) so_far ∙ appended_append k l list i j next
-
-  pub step_more : (r : List ℕ) (x : Step) → r ≡ put_step m j x → r ≡ appended list i (k ++ (x ∷ []))
-  step_more r x e = stretch_more r (x ∷ []) (step_first m r j x e)
+-- one stretch more
+pub stretch_more : (list m : List ℕ) (i j : ℕ) (k : List Step) → m ≡ appended list i k → j ≡ i + length k → (r : List ℕ) (l : List Step) → r ≡ appended m j l → r ≡ appended list i (k ++ l)
+stretch_more list m i j k so_far next r l e = e ∙ ap (λ (z : List ℕ). appended z j l) so_far ∙ appended_append k l list i j next
 
 -- behind a list that is written already, the longer list is written
 pub appended_written : (l p : List Step) (old : List ℕ) (i : ℕ) → i ≡ length p → 2 * length (p ++ l) ≤ length old

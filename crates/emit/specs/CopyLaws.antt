@@ -61,20 +61,6 @@ module _ (L : Leaf) where
   head_append h [] l = refl
   head_append h (c ∷ k) l = head_append (copied_head L h (c ∷ [])) k l
 
--- one slot of the line seen to: nothing copied, or one entry
-abbrev pub Turned : (ℕ → Bool) → Leaf → ℕ → ℕ → ℕ → ℕ → List ℕ → List ℕ → ℕ → Type 0
-Turned occ L b i t at before behind j =
-    (behind ≡ appended before at (copy_steps L b (copies occ i t 1))) × (j ≡ i + length (copies occ i t 1)) × (j ≤ i + 1)
-
-module _ (occ : ℕ → Bool) (L : Leaf) (b i t at : ℕ) (list : List ℕ) where
-  pub turn_taken : occ t ≡ true → Turned occ L b i t at list list i
-  unfolding appended
-  turn_taken e = rw (copies_taken occ i t e) (refl, omega arith, omega arith)
-
-  pub turn_vacant : (r : List ℕ) → occ t ≡ false → r ≡ appended list at (entry_steps b t (L.key i) (L.val i))
-      → Turned occ L b i t at list r (i + 1)
-  turn_vacant r e q = rw (copies_vacant occ i t e) (q, refl, omega arith)
-
 -- ---- the loops over the slots behind slot s, up to slot t
 
 abbrev pub copied : ℕ → ℕ → ℕ → List Copy
@@ -90,6 +76,10 @@ copied_more h s t l =
     let f : suc s + (t - suc s) ≡ t = omega arith in
     ap (copies (occ_in h) 0 (suc s)) e ∙ copies_more (occ_in h) 0 (suc s) (t - suc s)
     ∙ ap₂ (λ (i u : ℕ). copied h s t ++ copies (occ_in h) i u 1) (zero-add (length (copied h s t))) f
+
+copied_next : (h s t from : ℕ) → s < t → from ≡ length (copied h s t)
+    → copied h s (t + 1) ≡ copied h s t ++ copies (occ_in h) from t 1
+copied_next h s t from l n = rw n (copied_more h s t l)
 
 copied_all : (h s t : ℕ) → t ≡ last_beside s + 1 → copied h s t ≡ copies_beside h s
 unfolding copies_beside
@@ -112,22 +102,30 @@ module _ (h : ℕ) (L : Leaf) (b s at : ℕ) (before : List ℕ) where
     long = refl;
   }
 
-  pub copied_turn : (t : ℕ) (list r : List ℕ) (from j : ℕ) → s < t → CopiedTo h L b s at before t list from
-      → Turned (occ_in h) L b from t (at + 2 * from) list r j → CopiedTo h L b s at before (t + 1) r j
-  copied_turn t list r from j l c x =
-      let ds = copies (occ_in h) from t 1 in
-      let e : copied h s (t + 1) ≡ copied h s t ++ ds =
-      copied_more h s t l ∙ ap (λ (i : ℕ). copied h s t ++ copies (occ_in h) i t 1) (sym c.number) in
-      let n : length (copy_steps L b (copied h s t)) ≡ 2 * length (copied h s t) = copy_length L b (copied h s t) in
-      record {
-        steps = stretch_more before list at (at + 2 * from) (copy_steps L b (copied h s t)) c.steps
-            (omega (arith, c.number)) r
-            (copy_steps L b ds) x.0
-            ∙ ap (appended before at) (sym (ap (copy_steps L b) e ∙ steps_append L b (copied h s t) ds));
-        number = x.1 ∙ ap (λ (m : ℕ). m + length ds) c.number ∙ sym (ap length e ∙ length-append (copied h s t) ds);
-        few = omega (arith, x.2, c.few);
-        long = ap length x.0 ∙ appended_length (copy_steps L b ds) list (at + 2 * from) ∙ c.long;
-      }
+  module _ (t : ℕ) (list r : List ℕ) (from j : ℕ) (l : s < t) (c : CopiedTo h L b s at before t list from) where
+    copied_on : (ds : List Copy) → copies (occ_in h) from t 1 ≡ ds → r ≡ appended list (at + 2 * from) (copy_steps L b ds)
+        → j ≡ from + length ds → length ds ≤ 1 → CopiedTo h L b s at before (t + 1) r j
+    copied_on ds e q n m =
+        let d : copied h s (t + 1) ≡ copied h s t ++ ds =
+        copied_next h s t from l c.number ∙ ap (λ (x : List Copy). copied h s t ++ x) e in
+        let z : length (copy_steps L b (copied h s t)) ≡ 2 * length (copied h s t) = copy_length L b (copied h s t) in
+        record {
+          steps = stretch_more before list at (at + 2 * from) (copy_steps L b (copied h s t)) c.steps
+              (omega (arith, c.number)) r (copy_steps L b ds) q
+              ∙ ap (appended before at) (sym (ap (copy_steps L b) d ∙ steps_append L b (copied h s t) ds));
+          number = n ∙ ap (λ (x : ℕ). x + length ds) c.number ∙ sym (ap length d ∙ length-append (copied h s t) ds);
+          few = omega (arith, c.few);
+          long = ap length q ∙ appended_length (copy_steps L b ds) list (at + 2 * from) ∙ c.long;
+        }
+
+    pub copied_taken : occ_in h t ≡ true → r ≡ list → j ≡ from → CopiedTo h L b s at before (t + 1) r j
+    unfolding appended
+    copied_taken e q n = copied_on [] (copies_taken (occ_in h) from t e) q (omega arith) (omega arith)
+
+    pub copied_vacant : (k v : ℕ) → occ_in h t ≡ false → k ≡ L.key from → v ≡ L.val from
+        → r ≡ appended list (at + 2 * from) (entry_steps b t k v) → j ≡ from + 1 → CopiedTo h L b s at before (t + 1) r j
+    copied_vacant k v e ek ev q n =
+        copied_on (record { from = from; to = t } ∷ []) (copies_vacant (occ_in h) from t e) (rw (← ek, ← ev) q) n (omega arith)
 
   pub copied_end : (t : ℕ) (list : List ℕ) (from : ℕ) → t ≡ last_beside s + 1 → CopiedTo h L b s at before t list from
       → (list ≡ appended before at (copy_steps L b (copies_beside h s))) × (from ≡ length (copies_beside h s))
@@ -147,13 +145,11 @@ module _ (h : ℕ) (L : Leaf) (s k : ℕ) where
   filled_start f e = record { bits = rw (copied_none h s) e; number = rw (copied_none h s); few = omega arith }
 
   module _ (t f from : ℕ) (l : s < t) (c : FilledTo h L s k t f from) where
-    same : copied h s (t + 1) ≡ copied h s t ++ copies (occ_in h) from t 1
-    same = copied_more h s t l ∙ ap (λ (i : ℕ). copied h s t ++ copies (occ_in h) i t 1) (sym c.number)
-
     filled_on : (ds : List Copy) (g j : ℕ) → copies (occ_in h) from t 1 ≡ ds → g ≡ copied_head L f ds → j ≡ from + length ds
         → length ds ≤ 1 → FilledTo h L s k (t + 1) g j
     filled_on ds g j e q n m =
-        let d : copied h s (t + 1) ≡ copied h s t ++ ds = same ∙ ap (λ (x : List Copy). copied h s t ++ x) e in
+        let d : copied h s (t + 1) ≡ copied h s t ++ ds =
+        copied_next h s t from l c.number ∙ ap (λ (x : List Copy). copied h s t ++ x) e in
         record {
           bits = q ∙ ap (λ (x : ℕ). copied_head L x ds) c.bits ∙ sym (ap (copied_head L first) d
               ∙ head_append L first (copied h s t) ds);

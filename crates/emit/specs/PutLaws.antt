@@ -1,19 +1,18 @@
 -- The plain put, put together from its stretches.
-use Rattle.std.specs.Prelude.{ℕ, ◌+◌, ◌*◌, ◌≤◌, ◌<◌, List, [], ◌∷◌, ◌++◌, ◌≡◌}
-use Rattle.std.proofs.Common.{arith, lt-ltb, le-ltb, append_assoc, ◌∙◌}
+use Rattle.std.specs.Prelude.{ℕ, ◌+◌, ◌*◌, List, [], ◌∷◌, ◌++◌, ◌≡◌, Option}
+use Rattle.std.proofs.Common.{arith, append_assoc, ◌∙◌}
 use Rattle.std.proofs.Math.Path.{refl, sym, ap}
 use Rattle.std.proofs.Math.ListN.{length, length-append}
 use Rattle.leaf.specs.Leaf.{Leaf, occ_in}
 use Rattle.leaf.specs.Search.{lowest_vacant}
-use Rattle.leaf.specs.declared.search.Slot.{Slot}
 use Rattle.steps.specs.declared.Step.{Step}
 use Rattle.steps.specs.declared.Step.TheVariants.{Store as store, WriteBack as write_back, Fence as fence}
 use Rattle.steps.specs.Model.{line}
 use Rattle.steps.specs.Shapes.{one_store}
 use Rattle.lists.proofs.Beside.{copy_length}
 use Rattle.lists.specs.Lists.{word_place, key_place, low_word, high_word, entry_steps, copy_steps, copies_beside, filled_head}
-use Rattle.lists.specs.Lists.{near_put, far_put, put_at, put_found, plain_put}
-use Rattle.emit.specs.Appended.{appended, Wrote, stretch_more}
+use Rattle.lists.specs.Lists.{far_put, put_found, plain_put}
+use Rattle.emit.specs.Appended.{appended, stretch_more}
 
 -- a line written back, and a fence
 abbrev pub settling : ℕ → List Step
@@ -54,18 +53,8 @@ module _ (h : ℕ) (L : Leaf) (b s k v : ℕ) where
         ap (λ (x : ℕ). 8 + 2 * x) en ∙ sym far_length,
       )
 
-  -- either of the two
-  pub put_near : (before behind : List ℕ) (at : ℕ) → s < 3 → behind ≡ appended before at (near_put h b s k v)
-      → Wrote before at (put_at h L b s k v) behind 5
-  unfolding put_at near_put
-  put_near before behind at l e = rw (lt-ltb s 3 l) (e, refl, omega arith)
-
-  pub put_far : 3 ≤ s → far_put h L b s k v ≡ put_at h L b s k v
-  unfolding put_at
-  put_far l = rw (le-ltb s 3 l)
-
 -- the slot that was found
-pub put_found_lem : (h : ℕ) (L : Leaf) (b k v : ℕ) (x : Slot) → x ≡ lowest_vacant (occ_in h) 14
+pub put_found_lem : (h : ℕ) (L : Leaf) (b k v : ℕ) (x : Option ℕ) → x ≡ lowest_vacant (occ_in h) 14
     → put_found x h L b k v ≡ plain_put h L b k v
 unfolding plain_put
-put_found_lem h L b k v x e = ap (λ (y : Slot). put_found y h L b k v) e
+put_found_lem h L b k v x e = ap (λ (y : Option ℕ). put_found y h L b k v) e

@@ -1,59 +1,42 @@
 // The plain put: into line 0, or past it with the entries moved out of line 0.
 ghost use Rattle.std.specs.Prelude.{◌≡◌, ◌+◌, ◌*◌, ◌≤◌, ◌<◌, length};
 ghost use Rattle.header.specs.Header.{bits_of, marked, cleared, fingerprint_of};
-ghost use Rattle.leaf.specs.Leaf.{leaf_in, occ_in};
+ghost use Rattle.leaf.specs.Leaf.{leaf_in};
 ghost use Rattle.lists.specs.Lists.{entry_steps, near_put, copies_beside, copy_steps, filled_head};
 ghost use Rattle.lists.specs.Lists.{far_put, put_at, plain_put};
 ghost use Rattle.emit.specs.Appended.{appended, Wrote};
-ghost use Rattle.emit.specs.CopyLaws.{Turned};
 ghost use Rattle.emit.specs.PutLaws.{settling, header_steps};
 
-use crate::head::{word0, word1};
-use crate::short::append_store;
+use crate::entry::{Entry, entry_at};
+use crate::short::{append_pair, append_store};
 use header::{Header, fingerprint_of};
 use leaf::place::Leaf;
-use leaf::search::{Slot, key_at, lowest_vacant, value_at};
+use leaf::search::{key_at, lowest_vacant};
 use machine::list::put_step;
 use steps::Step;
 
-// An entry stored in slot s of a block.
-fn append_entry(list: &mut [u64], at: usize, block: u64, s: usize, key: u64, value: u64)
+// An entry stored in slot s of a block: the value stands behind the key.
+fn append_entry(list: &mut [u64], at: usize, block: u64, s: usize, entry: Entry)
     requires { (2 * at + 4 ≤ length list.old) × (block < 256) × (s < 14) }
-    ensures { list.new ≡ appended list.old at (entry_steps block s key value) }
+    ensures { list.new ≡ appended list.old at (entry_steps block s entry.key entry.value) }
 {
-    let place = Leaf::WORDS * block;
-    put_step(list, at, Step::Store(place + Leaf::key_word(s), key));
-    put_step(
-        list,
-        at + 1,
-        Step::Store(place + Leaf::value_word(s), value),
-    );
+    let place = Leaf::WORDS * block + Leaf::key_word(s);
+    append_pair(list, at, place, entry.key, entry.value);
 }
 
-fn append_near_put(
-    list: &mut [u64],
-    at: usize,
-    head: Header,
-    block: u64,
-    s: usize,
-    key: u64,
-    value: u64,
-)
+#[tactic(auto, unfolding(crate::specs::Appended::appended, lists::specs::Lists::near_put))]
+fn append_near_put(list: &mut [u64], at: usize, head: Header, block: u64, s: usize, entry: Entry)
     requires { (2 * at + 10 ≤ length list.old) × (block < 256) × (s < 14) }
-    ensures { list.new ≡ appended list.old at (near_put (bits_of head) block s key value) }
+    ensures { list.new ≡ appended list.old at (near_put (bits_of head) block s entry.key entry.value) }
 {
-    append_entry(list, at, block, s, key, value);
-    append_store(
-        list,
-        at + 2,
-        Leaf::WORDS * block,
-        word0(head.mark(s, fingerprint_of(key))),
-    );
+    append_entry(list, at, block, s, entry);
+    let filled = head.mark(s, fingerprint_of(entry.key));
+    append_store(list, at + 2, Leaf::WORDS * block, filled.low);
 }
 
 // The header with the entry of one slot moved to another.
-fn moved(head: Header, leaf: &[u8], from: usize, to: usize) -> Header
-    requires { (256 ≤ length leaf.now) × (from < 14) × (to < 14) }
+fn moved(head: Header, leaf: &[u8; 256], from: usize, to: usize) -> Header
+    requires { (from < 14) × (to < 14) }
     ensures { bits_of result ≡ marked (cleared (bits_of head) from) to (fingerprint_of ((leaf_in leaf.now).key from)) }
 {
     head.clear(from)
@@ -61,43 +44,20 @@ fn moved(head: Header, leaf: &[u8], from: usize, to: usize) -> Header
 }
 
 // "with the new entry and the copies marked, the copies' old bits cleared".
-fn filled_head(head: Header, leaf: &[u8], s: usize, key: u64) -> Header
-    requires { (256 ≤ length leaf.now) × (3 ≤ s) × (s < 14) }
+fn filled_head(head: Header, leaf: &[u8; 256], s: usize, key: u64) -> Header
+    requires { (3 ≤ s) × (s < 14) }
     ensures { bits_of result ≡ filled_head (bits_of head) (leaf_in leaf.now) s key }
 {
     let last = Leaf::last_beside(s);
     let mut filled = head.mark(s, fingerprint_of(key));
     let mut from = 0;
-    let mut t = s + 1;
-    while t <= last {
+    for t in s + 1..last + 1 {
         if !head.occupied(t) {
             filled = moved(filled, leaf, from, t);
             from += 1;
         }
-        t += 1;
     }
     filled
-}
-
-// Copies the entry of slot `from` to slot t where that is vacant, and tells the slot to copy from next.
-fn append_copy(
-    list: &mut [u64],
-    at: usize,
-    head: Header,
-    leaf: &[u8],
-    block: u64,
-    from: usize,
-    t: usize,
-) -> usize
-    requires { (2 * at + 4 ≤ length list.old) × (256 ≤ length leaf.now) × (block < 256) × (from < 14) × (t < 14) }
-    ensures { Turned (occ_in (bits_of head)) (leaf_in leaf.now) block from t at
-        list.old list.new result }
-{
-    if head.occupied(t) {
-        return from;
-    }
-    append_entry(list, at, block, t, key_at(leaf, from), value_at(leaf, from));
-    from + 1
 }
 
 // The copies, and how many they are.
@@ -105,36 +65,39 @@ fn append_copies(
     list: &mut [u64],
     at: usize,
     head: Header,
-    leaf: &[u8],
+    leaf: &[u8; 256],
     block: u64,
     s: usize,
 ) -> usize
-    requires { (2 * at + 12 ≤ length list.old) × (256 ≤ length leaf.now) × (block < 256) × (3 ≤ s) × (s < 14) }
+    requires { (2 * at + 12 ≤ length list.old) × (block < 256) × (3 ≤ s) × (s < 14) }
     ensures { (list.new
         ≡ appended list.old at (copy_steps (leaf_in leaf.now) block (copies_beside (bits_of head) s)))
         × (result ≡ length (copies_beside (bits_of head) s)) × (result ≤ 3) }
 {
     let last = Leaf::last_beside(s);
-    let mut from: usize = 0;
-    let mut t = s + 1;
-    while t <= last {
-        from = append_copy(list, at + 2 * from, head, leaf, block, from, t);
-        t += 1;
+    let mut from = 0;
+    for t in s + 1..last + 1 {
+        if !head.occupied(t) {
+            append_entry(list, at + 2 * from, block, t, entry_at(leaf, from));
+            from += 1;
+        }
     }
     from
 }
 
 // "Store word 1, then word 0 (..). Write back line 0, fence."
+#[tactic(auto, unfolding(crate::specs::Appended::appended))]
 fn append_header(list: &mut [u64], at: usize, block: u64, head: Header)
     requires { (2 * at + 8 ≤ length list.old) × (block < 256) }
     ensures { list.new ≡ appended list.old at (header_steps block (bits_of head)) }
 {
     let place = Leaf::WORDS * block;
-    put_step(list, at, Step::Store(place + 1, word1(head)));
-    append_store(list, at + 1, place, word0(head));
+    put_step(list, at, Step::Store(place + 1, head.high));
+    append_store(list, at + 1, place, head.low);
 }
 
 // A line written back, and a fence.
+#[tactic(auto, unfolding(crate::specs::Appended::appended))]
 fn append_settling(list: &mut [u64], at: usize, line: u64)
     requires { (2 * at + 4 ≤ length list.old) × (line < 1024) }
     ensures { list.new ≡ appended list.old at (settling line) }
@@ -148,62 +111,68 @@ fn append_far_put(
     list: &mut [u64],
     at: usize,
     head: Header,
-    leaf: &[u8],
+    leaf: &[u8; 256],
     block: u64,
     s: usize,
-    key: u64,
-    value: u64,
+    entry: Entry,
 ) -> usize
-    requires { (2 * at + 28 ≤ length list.old) × (256 ≤ length leaf.now) × (block < 256) × (3 ≤ s) × (s < 14) }
-    ensures { Wrote list.old at (far_put (bits_of head) (leaf_in leaf.now) block s key value)
+    requires { (2 * at + 28 ≤ length list.old) × (block < 256) × (3 ≤ s) × (s < 14) }
+    ensures { Wrote list.old at (far_put (bits_of head) (leaf_in leaf.now) block s entry.key entry.value)
         list.new result }
 {
-    append_entry(list, at, block, s, key, value);
+    append_entry(list, at, block, s, entry);
     let n = append_copies(list, at + 2, head, leaf, block, s);
     let behind = at + 2 + 2 * n;
     append_settling(list, behind, Leaf::LINES * block + Leaf::line(s));
-    append_header(list, behind + 2, block, filled_head(head, leaf, s, key));
+    append_header(
+        list,
+        behind + 2,
+        block,
+        filled_head(head, leaf, s, entry.key),
+    );
     8 + 2 * n
 }
 
 // The plain put into the vacant slot s.
+#[tactic(auto, unfolding(lists::specs::Lists::put_at, lists::specs::Lists::near_put))]
 pub fn append_put_at(
     list: &mut [u64],
     at: usize,
     head: Header,
-    leaf: &[u8],
+    leaf: &[u8; 256],
     block: u64,
     s: usize,
     key: u64,
     value: u64,
 ) -> usize
-    requires { (2 * at + 28 ≤ length list.old) × (256 ≤ length leaf.now) × (block < 256) × (s < 14) }
+    requires { (2 * at + 28 ≤ length list.old) × (block < 256) × (s < 14) }
     ensures { Wrote list.old at (put_at (bits_of head) (leaf_in leaf.now) block s key value)
         list.new result }
 {
+    let entry = Entry { key, value };
     if s < 3 {
-        append_near_put(list, at, head, block, s, key, value);
+        append_near_put(list, at, head, block, s, entry);
         return 5;
     }
-    append_far_put(list, at, head, leaf, block, s, key, value)
+    append_far_put(list, at, head, leaf, block, s, entry)
 }
 
 // The plain put under a header. The keys and values are those of the leaf's bytes, whose header may be an older one.
+#[tactic(auto, using(leaf::proofs::SearchLaws::vacant_at), unfolding(lists::specs::Lists::plain_put, crate::specs::Appended::appended))]
 pub fn append_plain_put(
     list: &mut [u64],
     at: usize,
     head: Header,
-    leaf: &[u8],
+    leaf: &[u8; 256],
     block: u64,
-    key: u64,
-    value: u64,
+    entry: Entry,
 ) -> usize
-    requires { (2 * at + 28 ≤ length list.old) × (256 ≤ length leaf.now) × (block < 256) }
-    ensures { Wrote list.old at (plain_put (bits_of head) (leaf_in leaf.now) block key value)
+    requires { (2 * at + 28 ≤ length list.old) × (block < 256) }
+    ensures { Wrote list.old at (plain_put (bits_of head) (leaf_in leaf.now) block entry.key entry.value)
         list.new result }
 {
     match lowest_vacant(head) {
-        Slot::At(s) => append_put_at(list, at, head, leaf, block, s, key, value),
-        Slot::Missing => 0,
+        Some(s) => append_put_at(list, at, head, leaf, block, s, entry.key, entry.value),
+        None => 0,
     }
 }

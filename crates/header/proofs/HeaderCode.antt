@@ -7,15 +7,14 @@ use Rattle.std.proofs.Math.Nat.{mod-eq_of_lt, div-div-eq-div-mul}
 use native.Mathlib.Omega.{arith}
 use Rattle.std.specs.Int.Bits.{bit_xor, xor_zero_l, xor_zero_r}
 use Rattle.std.proofs.Math.Pow.{high, low, shr-shr}
+use Rattle.words.specs.Below.{IsFirst}
 use Rattle.words.specs.Words.{word_at}
 use Rattle.words.specs.WordLaws.{Bytes, byte_word}
-use Rattle.header.specs.Fields.{field, patched}
+use Rattle.header.specs.Fields.{field, is_one, patched}
 use Rattle.header.proofs.FieldLaws.{field_lt, field_le, field_of_low, patched_code, patched_lt}
 use Rattle.header.specs.Header.{whole, is_occupied, is_locked, alt_in, fingerprint_in, marked, cleared, flipped}
 use Rattle.header.specs.Header.{xor_of_bytes, fingerprint_of}
-use Rattle.header.specs.Lowest.{LowestOne}
 use Rattle.header.proofs.Xor.{xor_assoc}
-use Rattle.header.specs.HeaderCode.{FirstTaken}
 
 -- ---- fields of the whole
 
@@ -119,20 +118,14 @@ unfolding xor_of_bytes
 mix_end mix rest i h = let e : 8 - i ≡ 0 = omega arith in rw e (xor_zero_r mix)
 
 -- by the lowest bit of word 0 that is 1
-module _ (l h s : ℕ) (small : l < 2 ^ 64) (one : LowestOne l 64 s) where
-  bit_below : (t : ℕ) → t < 14 → t < s → is_occupied (whole l h) t ≡ false
-  bit_below t b c = sym (occupied_low l h t small b) ∙ ap (λ (x : ℕ). eqb x 1) (one.below t c)
-
-  pub first_taken : s < 14 → FirstTaken (whole l h) s
-  first_taken b = record {
-    most = omega arith;
-    below = λ t c. bit_below t (omega arith) c;
-    at = λ c. sym (occupied_low l h s small b) ∙ ap (λ (x : ℕ). eqb x 1) (one.at (omega arith));
+module _ (l h : ℕ) (small : l < 2 ^ 64) where
+  pub first_taken : (s : ℕ) → IsFirst (is_one l) 64 s → s < 14 → IsFirst (is_occupied (whole l h)) 14 s
+  first_taken s z b = record {
+    inside = b;
+    holds = sym (occupied_low l h s small b) ∙ z.holds;
+    before = λ t c. sym (occupied_low l h t small (omega arith)) ∙ z.before t c;
   }
 
-  pub none_taken : 14 ≤ s → FirstTaken (whole l h) 14
-  none_taken b = record {
-    most = omega arith;
-    below = λ t c. bit_below t c (omega arith);
-    at = λ c. absurd (omega arith);
-  }
+  -- all bits below the 14th, or above it, are 0
+  pub none_taken : ((t : ℕ) → t < 14 → is_one l t ≡ false) → (t : ℕ) → t < 14 → is_occupied (whole l h) t ≡ false
+  none_taken f t b = sym (occupied_low l h t small b) ∙ f t b

@@ -1,5 +1,3 @@
--- To believe: Fields, Header. Lowest and HeaderCode say what a search for a bit tells.
+-- To believe: Fields (runs of bits), Header (a leaf's two words).
 pub mod Fields
-pub mod Lowest
 pub mod Header
-pub mod HeaderCode

@@ -1,11 +1,10 @@
 // A run of bits of a word, read and replaced, and the lowest bit that is 1 or 0.
-ghost use Rattle.std.specs.Prelude.{◌≡◌, ◌+◌, ◌≤◌, ◌<◌, ◌^◌};
-ghost use Rattle.header.specs.Fields.{field, patched};
-ghost use Rattle.header.specs.Lowest.{LowestOne, LowestZero};
-
-use words::LARGEST;
+ghost use Rattle.std.specs.Prelude.{◌≡◌, not, ◌+◌, ◌≤◌, ◌<◌, ◌^◌};
+ghost use Rattle.words.specs.Below.{FirstBelow};
+ghost use Rattle.header.specs.Fields.{field, is_one, patched};
 
 // The w bits of n from bit p on.
+#[tactic(auto, using(crate::proofs::FieldLaws::one_shl), unfolding(crate::specs::Fields::field))]
 pub fn get(n: u64, p: usize, w: usize) -> u64
     requires { (p < 64) × (w < 64) }
     ensures { result ≡ field n p w }
@@ -14,6 +13,7 @@ pub fn get(n: u64, p: usize, w: usize) -> u64
 }
 
 // n with d in place of its w bits from bit p on.
+#[tactic(auto, using(crate::proofs::FieldLaws::shl_le, crate::proofs::FieldLaws::shl_fits, crate::proofs::FieldLaws::shl_patched))]
 pub fn replace(n: u64, p: usize, w: usize, d: u64) -> u64
     requires { (p < 64) × (w < 64) × (p + w ≤ 64) × (d < 2 ^ w) }
     ensures { result ≡ patched n p w d }
@@ -22,16 +22,21 @@ pub fn replace(n: u64, p: usize, w: usize, d: u64) -> u64
     n - old + (d << p)
 }
 
-// The lowest bit of n that is 1; 64 where none is.
-pub fn lowest_one(n: u64) -> usize
-    ensures { LowestOne n 64 result }
+// The lowest bit of n that is 1.
+#[tactic(auto, using(crate::proofs::Lowest::ones, crate::proofs::Lowest::no_ones))]
+pub fn lowest_one(n: u64) -> Option<usize>
+    ensures { FirstBelow (is_one n) 64 result }
 {
-    u64::trailing_zeros(n) as usize
+    if n == 0 {
+        return None;
+    }
+    Some(n.trailing_zeros() as usize)
 }
 
-// The lowest bit of n that is 0; 64 where none is.
-pub fn lowest_zero(n: u64) -> usize
-    ensures { LowestZero n 64 result }
+// The lowest bit of n that is 0.
+#[tactic(auto, using(crate::proofs::Lowest::zeros))]
+pub fn lowest_zero(n: u64) -> Option<usize>
+    ensures { FirstBelow (λ t. not (is_one n t)) 64 result }
 {
-    u64::trailing_zeros(LARGEST - n) as usize
+    lowest_one(!n)
 }

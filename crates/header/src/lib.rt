@@ -5,10 +5,10 @@
 pub mod bits;
 
 ghost use Rattle.std.specs.Prelude.{◌≡◌, ◌+◌, ◌≤◌, ◌<◌, length};
+ghost use Rattle.words.specs.Below.{FirstBelow};
 ghost use Rattle.words.specs.Words.{word_at};
 ghost use Rattle.header.specs.Header.{head_at, bits_of, is_occupied, fingerprint_in, is_locked, alt_in};
 ghost use Rattle.header.specs.Header.{marked, cleared, flipped, fingerprint_of};
-ghost use Rattle.header.specs.HeaderCode.{FirstTaken};
 
 use crate::bits::{get, lowest_one, replace};
 
@@ -19,6 +19,7 @@ pub struct Header {
 }
 
 impl Header {
+    #[tactic(auto, unfolding(crate::specs::Header::head_at))]
     pub fn read(bytes: &[u8], place: usize) -> Header
         requires { place + 16 ≤ length bytes.now }
         ensures { bits_of result ≡ head_at bytes.now place }
@@ -29,6 +30,7 @@ impl Header {
         }
     }
 
+    #[tactic(auto, using(crate::proofs::HeaderCode::occupied_low))]
     pub fn occupied(self, s: usize) -> bool
         requires { s < 14 }
         ensures { result ≡ is_occupied (bits_of self) s }
@@ -36,14 +38,16 @@ impl Header {
         get(self.low, s, 1) == 1
     }
 
-    // The lowest occupied slot; 14 where none is.
-    pub fn first_taken(self) -> usize
-        ensures { FirstTaken (bits_of self) result }
+    // The lowest occupied slot.
+    #[tactic(auto, using(crate::proofs::HeaderCode::none_taken))]
+    pub fn first_taken(self) -> Option<usize>
+        ensures { FirstBelow (is_occupied (bits_of self)) 14 result }
     {
-        let s = lowest_one(self.low);
-        if s < 14 { s } else { 14 }
+        let s = lowest_one(self.low)?;
+        if s < 14 { Some(s) } else { None }
     }
 
+    #[tactic(auto, using(crate::proofs::HeaderCode::fingerprint_low, crate::proofs::HeaderCode::fingerprint_high))]
     pub fn fingerprint(self, s: usize) -> u8
         requires { s < 14 }
         ensures { result ≡ fingerprint_in (bits_of self) s }
@@ -55,6 +59,7 @@ impl Header {
         }
     }
 
+    #[tactic(auto, using(crate::proofs::HeaderCode::locked_low))]
     pub fn locked(self) -> bool
         ensures { result ≡ is_locked (bits_of self) }
     {
@@ -62,12 +67,14 @@ impl Header {
     }
 
     // Which sibling is active, 0 or 1.
+    #[tactic(auto, using(crate::proofs::HeaderCode::alt_low))]
     pub fn alt(self) -> u64
         ensures { result ≡ alt_in (bits_of self) }
     {
         get(self.low, 15, 1)
     }
 
+    #[tactic(auto, using(crate::proofs::HeaderCode::marked_low, crate::proofs::HeaderCode::marked_high))]
     pub fn mark(self, s: usize, fp: u8) -> Header
         requires { s < 14 }
         ensures { bits_of result ≡ marked (bits_of self) s fp }
@@ -86,6 +93,7 @@ impl Header {
         }
     }
 
+    #[tactic(auto, using(crate::proofs::HeaderCode::cleared_low))]
     pub fn clear(self, s: usize) -> Header
         requires { s < 14 }
         ensures { bits_of result ≡ cleared (bits_of self) s }
@@ -96,6 +104,7 @@ impl Header {
         }
     }
 
+    #[tactic(auto, using(crate::proofs::HeaderCode::flipped_low, crate::proofs::FieldLaws::field_lt))]
     pub fn flip_alt(self) -> Header
         ensures { bits_of result ≡ flipped (bits_of self) }
     {
@@ -107,6 +116,7 @@ impl Header {
 }
 
 // The fingerprint of a key: the exclusive-or of its eight bytes.
+#[tactic(auto, using(crate::proofs::HeaderCode::mix_start, crate::proofs::HeaderCode::mix_step, crate::proofs::HeaderCode::mix_end))]
 pub fn fingerprint_of(key: u64) -> u8
     ensures { result ≡ fingerprint_of key }
 {

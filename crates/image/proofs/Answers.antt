@@ -1,13 +1,11 @@
 -- What the calls answer, by the rising list of the map: find by the search in the target leaf, and the lists after a
 -- change. And that leaves that agree in all that is used give equal answers of every search.
-use Rattle.std.specs.Prelude.{◌≡◌, List, [], ◌∷◌, ◌++◌, ℕ, ◌≤◌, ◌<◌}
+use Rattle.std.specs.Prelude.{◌≡◌, List, [], ◌∷◌, ◌++◌, ℕ, ◌≤◌, ◌<◌, Option, Some, None}
 use Rattle.std.proofs.Math.Path.{refl}
 use Rattle.std.proofs.Common.{sym, ap, ◌∙◌, inl, arith}
 use Rattle.leaf.specs.Leaf.{Leaf, Taken, In, Right}
 use Rattle.leaf.specs.Search.{slot_of, least_from, key_or0, smallest_of}
 use Rattle.leaf.proofs.SearchLaws.{Holds, slot_at, slot_missing, Least, least_at, least_none}
-use Rattle.leaf.specs.declared.search.Slot.{Slot}
-use Rattle.leaf.specs.declared.search.Slot.TheVariants.{At, Missing}
 use Rattle.image.specs.Map.{Altered, Lists, put_in, without, lookup}
 use Rattle.image.proofs.ListLaws.{lists_unique, put_lists, without_lists, lookup_some, lookup_none}
 use Rattle.image.specs.Chain.{Has, Sound}
@@ -53,12 +51,12 @@ find_lookup I N xs b ys S k t = go (slot_of (I b) k) refl
     right : Right (I b)
     right = (part_good I N xs (b ∷ []) ys S).0.right
 
-    go : (x : Slot) → slot_of (I b) k ≡ x → value_at (I b) x ≡ lookup k (list_of I (xs ++ (b ∷ ys)))
-    go (At s) e =
+    go : (x : Option ℕ) → slot_of (I b) k ≡ x → value_at (I b) x ≡ lookup k (list_of I (xs ++ (b ∷ ys)))
+    go (Some s) e =
         let h : Holds (I b) k s = (slot_at (I b) k s e).1 in
         sym (lookup_some k L ((I b).val s) (has_right I k ((I b).val s) xs (b ∷ ys)
         (inl (record { at = s; taken = h.taken; key_is = h.key; val_is = refl }))))
-    go Missing e =
+    go None e =
         sym (lookup_none k L (λ v h.
         let i : In (I b) k v = target_find I N xs b ys S k t v h in
         slot_missing (I b) right k e i.at i.taken i.key_is))
@@ -73,8 +71,8 @@ module _ {L M : Leaf} (S : Slots L M) (r : Right L) where
   pub slots_least : (k : ℕ) → least_from M k ≡ least_from L k
   slots_least k = go (least_from L k) (least_from M k) refl refl
     where
-      go : (x y : Slot) → least_from L k ≡ x → least_from M k ≡ y → least_from M k ≡ least_from L k
-      go (At s) (At t) e f =
+      go : (x y : Option ℕ) → least_from L k ≡ x → least_from M k ≡ y → least_from M k ≡ least_from L k
+      go (Some s) (Some t) e f =
           let a : Least L k L.size s = least_at L k s e in
           let b : Least M k M.size t = least_at M k t f in
           let u : Taken L t = slots_taken S t b.taken in
@@ -82,21 +80,21 @@ module _ {L M : Leaf} (S : Slots L M) (r : Right L) where
           let q : (M.key t ≡ L.key t) × (t < M.size) = key_is t u in
           let le : L.key s ≤ L.key t = a.least t (r.inside t u) u (omega (arith, q.0, b.from)) in
           let ge : M.key t ≤ M.key s = b.least s p.1 (taken_slots S s a.taken) (omega (arith, p.0, a.from)) in
-          f ∙ ap At (r.differ t s u a.taken (omega (arith, p.0, q.0))) ∙ sym e
-      go (At s) Missing e f =
+          f ∙ ap Some (r.differ t s u a.taken (omega (arith, p.0, q.0))) ∙ sym e
+      go (Some s) None e f =
           let a : Least L k L.size s = least_at L k s e in
           let p : (M.key s ≡ L.key s) × (s < M.size) = key_is s a.taken in
           absurd (omega (arith, least_none M k f s p.1 (taken_slots S s a.taken), p.0, a.from))
-      go Missing (At t) e f =
+      go None (Some t) e f =
           let b : Least M k M.size t = least_at M k t f in
           let u : Taken L t = slots_taken S t b.taken in
           absurd (omega (arith, least_none L k e t (r.inside t u) u, (key_is t u).0, b.from))
-      go Missing Missing e f = f ∙ sym e
+      go None None e f = f ∙ sym e
 
   pub slots_smallest : smallest_of M ≡ smallest_of L
   unfolding smallest_of
   slots_smallest = rw (slots_least 0) (go (least_from L 0) refl)
     where
-      go : (x : Slot) → least_from L 0 ≡ x → key_or0 M x ≡ key_or0 L x
-      go (At s) e = S.key s (least_at L 0 s e).taken
-      go Missing e = refl
+      go : (x : Option ℕ) → least_from L 0 ≡ x → key_or0 M x ≡ key_or0 L x
+      go (Some s) e = S.key s (least_at L 0 s e).taken
+      go None e = refl

@@ -1,11 +1,10 @@
 -- The rising list of a map: there is one, and the plain map's operations on it are those on the map.
-use Rattle.std.specs.Prelude.{◌≡◌, refl, Bool, true, ◌⊎◌, ◌≢◌, ℕ, suc, ◌≤◌, ◌<◌, eqb}
+use Rattle.std.specs.Prelude.{◌≡◌, refl, Bool, true, ◌⊎◌, ◌≢◌, ℕ, suc, ◌≤◌, ◌<◌, eqb, Option, Some, None}
 use Rattle.std.proofs.Common.{sym, ap₂, ◌∙◌}
 use Rattle.std.proofs.Math.Path.{ap}
 use Rattle.std.proofs.Math.Bool.{cond, not}
 use mathlib.Core.List.{List, [], ◌∷◌, ◌++◌}
 use Rattle.std.proofs.Math.Logic.{inl, inr}
-use Rattle.std.proofs.Math.Option.{Option, some, none}
 use Rattle.std.proofs.Math.Decide.{dec_lt}
 use native.Mathlib.Omega.{arith}
 use borrow.Author.Tests.{ltb-true, leb-true, eqb-true, eqb-false, lt-ltb, le-leb, eq-eqb, ne_eqb, not-true}
@@ -206,16 +205,16 @@ module _ {H : Map} {l : List Entry} (L : Lists H l) (k : ℕ) where
 -- ---- lookup
 
 module _ (k : ℕ) where
-  found_member : (l : List Entry) (v : ℕ) → lookup k l ≡ some v → Member l k v
+  found_member : (l : List Entry) (v : ℕ) → lookup k l ≡ Some v → Member l k v
   unfolding lookup
   found_member [] v q = never cc
   found_member (e ∷ l) v q =
-      by_test (λ b. cond b (some e.val) (lookup k l) ≡ some v → Member (e ∷ l) k v) (eqb e.key k)
+      by_test (λ b. cond b (Some e.val) (lookup k l) ≡ Some v → Member (e ∷ l) k v) (eqb e.key k)
       (λ t h. inl (sym (eqb-true e.key k t), cc))
       (λ t h. inr (found_member l v h))
       q
 
-  member_found : (lo : ℕ) (l : List Entry) (v : ℕ) → Sorted lo l → Member l k v → lookup k l ≡ some v
+  member_found : (lo : ℕ) (l : List Entry) (v : ℕ) → Sorted lo l → Member l k v → lookup k l ≡ Some v
   unfolding lookup
   member_found lo [] v s x'' = elim x'' [ ]
   member_found lo (e ∷ l) v s (inl a) = rw (eq-eqb e.key k (sym a.0), a.1)
@@ -223,18 +222,18 @@ module _ (k : ℕ) where
       rw (ne_eqb e.key k (λ q. omega (arith, member_above (suc e.key) l s.1 k v m)))
       (member_found (suc e.key) l v s.1 m)
 
-  absent_missing : (l : List Entry) → ((v : ℕ) → Member l k v → ⊥) → lookup k l ≡ none
+  absent_missing : (l : List Entry) → ((v : ℕ) → Member l k v → ⊥) → lookup k l ≡ None
   absent_missing l f = go (lookup k l) refl
     where
-      go : (x : Option ℕ) → lookup k l ≡ x → lookup k l ≡ none
-      go (some v) e = absurd (f v (found_member l v e))
-      go none e = e
+      go : (x : Option ℕ) → lookup k l ≡ x → lookup k l ≡ None
+      go (Some v) e = absurd (f v (found_member l v e))
+      go None e = e
 
-  pub lookup_some : {H : Map} {l : List Entry} → Lists H l → (v : ℕ) → H k v → lookup k l ≡ some v
+  pub lookup_some : {H : Map} {l : List Entry} → Lists H l → (v : ℕ) → H k v → lookup k l ≡ Some v
   lookup_some {H} {l} L v h = member_found 0 l v L.sorted (L.members.back k v h)
 
-  pub some_lookup : {H : Map} {l : List Entry} → Lists H l → (v : ℕ) → lookup k l ≡ some v → H k v
+  pub some_lookup : {H : Map} {l : List Entry} → Lists H l → (v : ℕ) → lookup k l ≡ Some v → H k v
   some_lookup {H} {l} L v e = L.members.to k v (found_member l v e)
 
-  pub lookup_none : {H : Map} {l : List Entry} → Lists H l → ((v : ℕ) → H k v → ⊥) → lookup k l ≡ none
+  pub lookup_none : {H : Map} {l : List Entry} → Lists H l → ((v : ℕ) → H k v → ⊥) → lookup k l ≡ None
   lookup_none {H} {l} L f = absent_missing l (λ v m. f v (L.members.to k v m))

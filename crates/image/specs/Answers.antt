@@ -1,10 +1,7 @@
 -- The value in a slot that a search found.
-use Rattle.std.specs.Prelude.{ℕ}
-use Rattle.std.proofs.Math.Option.{Option, some, none}
+use Rattle.std.specs.Prelude.{ℕ, Option, Some, None}
 use Rattle.leaf.specs.Leaf.{Leaf}
-use Rattle.leaf.specs.declared.search.Slot.{Slot}
-use Rattle.leaf.specs.declared.search.Slot.TheVariants.{At, Missing}
 
-abbrev pub value_at : Leaf → Slot → Option ℕ
-value_at L (At s) = some (L.val s)
-value_at L Missing = none
+abbrev pub value_at : Leaf → Option ℕ → Option ℕ
+value_at L (Some s) = Some (L.val s)
+value_at L None = None

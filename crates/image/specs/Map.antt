@@ -1,6 +1,5 @@
 -- A map as the relation of its keys and values, and as the list of its entries in rising order of their keys.
-use Rattle.std.specs.Prelude.{◌≡◌, Bool, cond, not, List, [], ◌∷◌, ◌++◌, ◌⊎◌, ◌≢◌, ℕ, suc, ◌≤◌, ltb, leb, eqb}
-use Rattle.std.proofs.Math.Option.{Option, some, none}
+use Rattle.std.specs.Prelude.{◌≡◌, Bool, cond, not, List, [], ◌∷◌, ◌++◌, ◌⊎◌, ◌≢◌, ℕ, suc, ◌≤◌, ltb, leb, eqb, Option, Some, None}
 
 -- ---- as a relation
 
@@ -55,8 +54,8 @@ without k l = only (λ j. not (eqb j k)) l
 
 -- the value of k: find
 unfoldable pub lookup : ℕ → List Entry → Option ℕ
-lookup k [] = none
-lookup k (e ∷ l) = cond (eqb e.key k) (some e.val) (lookup k l)
+lookup k [] = None
+lookup k (e ∷ l) = cond (eqb e.key k) (Some e.val) (lookup k l)
 
 -- "entries with that key or above": listing
 unfoldable pub starting_at : ℕ → List Entry → List Entry

@@ -1,11 +1,10 @@
 -- On a sound image the three calls agree with its map: find gives the value of a key, listing the entries from a key on,
 -- strictly rising, and recovery the leaves of the chain.
-use Rattle.std.specs.Prelude.{◌≡◌, ℕ, zero, suc, min, ◌≤◌, length, take}
+use Rattle.std.specs.Prelude.{◌≡◌, ℕ, zero, suc, min, ◌≤◌, length, take, Option, Some, None}
 use Rattle.std.proofs.Math.Path.{refl, ap, subst}
 use Rattle.std.proofs.Common.{sym, ◌∙◌}
 use Rattle.std.proofs.Math.Bool.{true, false, not}
 use mathlib.Core.List.{List, [], ◌∷◌, map}
-use Rattle.std.proofs.Math.Option.{Option, some, none}
 use Rattle.leaf.specs.Search.{smallest_of}
 use Rattle.steps.specs.Refusals.{bad_image}
 use Rattle.steps.proofs.Refusals.{row_left}
@@ -35,8 +34,8 @@ module _ (l : List ℕ) (fine : bad_image (length l) ≡ false) (S : SoundImage 
   find_accepted k = (λ i. find_by (fine i) (sound_test l fine S i) (lookup k (entries_in l))) ∙ by (lookup k (entries_in l))
     where
       by : (v : Option ℕ) → find_by false true v ≡ found_in v
-      by (some v) = refl
-      by none = refl
+      by (Some v) = refl
+      by None = refl
 
   pub listing_accepted : (from : ℕ) (ks vs : List ℕ) → listing_of l from ks vs
       ≡ listing_is (counted 0 (length (listed l from ks vs))) (over (map (λ e. e.key) (listed l from ks vs)) ks)

@@ -13,9 +13,6 @@ use Rattle.image.specs.Chain.{All}
 use Rattle.verdict.proofs.Passed.{fault_number}
 use Rattle.index.specs.Reading.{chain_from}
 
-pub chain_whole : (I : ℕ → Leaf) (N b : ℕ) → chain_from I (N - 0) b ≡ chain_from I N b
-chain_whole I N b = let q : N - 0 ≡ N = omega arith in rw q
-
 module _ (I : ℕ → Leaf) (N i b : ℕ) where
   pub chain_on : i < N → (I b).next ≢ 0 → chain_from I (N - i) b ≡ b ∷ chain_from I (N - (i + 1)) (I b).next
   unfolding chain_from

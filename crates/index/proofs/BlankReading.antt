@@ -1,5 +1,5 @@
 -- "An all-zero image is blank: sound, with an empty map": all three calls accept it, for every N from 1 to 256.
-use Rattle.std.specs.Prelude.{◌≡◌, false, ℕ, ◌<◌, min, length}
+use Rattle.std.specs.Prelude.{◌≡◌, false, ℕ, ◌<◌, min, length, Option, Some, None}
 use Rattle.std.proofs.Math.Path.{refl, ap}
 use Rattle.std.proofs.Common.{◌∙◌, inl}
 use mathlib.Core.List.{List, [], ◌∷◌, map}
@@ -7,8 +7,6 @@ use Rattle.std.proofs.Math.ListN.{take}
 use Rattle.std.proofs.Math.Seq.{take-nil}
 use Rattle.leaf.specs.Search.{least_from, key_or0, smallest_of}
 use Rattle.leaf.proofs.SearchLaws.{least_at}
-use Rattle.leaf.specs.declared.search.Slot.{Slot}
-use Rattle.leaf.specs.declared.search.Slot.TheVariants.{At, Missing}
 use Rattle.steps.specs.Refusals.{bad_image}
 use Rattle.image.specs.Map.{Entry, lookup, only, starting_at}
 use Rattle.image.proofs.Same.{own}
@@ -36,9 +34,9 @@ module _ (l : List ℕ) (z : Blank l) (fine : bad_image (length l) ≡ false) wh
   unfolding smallest_of
   blank_smallest = go (least_from (leaves l 0) 0) refl
     where
-      go : (x : Slot) → least_from (leaves l 0) 0 ≡ x → key_or0 (leaves l 0) x ≡ 0
-      go (At s) e = absurd (blank_empty l z _ _ (inl (own (leaves l 0) s (least_at (leaves l 0) 0 s e).taken)))
-      go Missing e = refl
+      go : (x : Option ℕ) → least_from (leaves l 0) 0 ≡ x → key_or0 (leaves l 0) x ≡ 0
+      go (Some s) e = absurd (blank_empty l z _ _ (inl (own (leaves l 0) s (least_at (leaves l 0) 0 s e).taken)))
+      go None e = refl
 
   pub blank_find : (k : ℕ) → find_of l k ≡ told 5 0
   unfolding lookup

@@ -2,15 +2,16 @@
 -- recovery compute, and what it comes to.
 use Rattle.std.specs.Prelude.{◌≡◌, ltb, drop, set}
 use Rattle.std.proofs.Math.Path.{refl, sym}
-use Rattle.std.proofs.Common.{ap, ◌∙◌, zero-add, lt-ltb, le-ltb, ltb-false, length-take}
+use Rattle.std.proofs.Common.{ap, ◌∙◌, zero-add, lt-ltb, le-ltb, ltb-false, length-take, length-drop, take, take-append-drop, append-nil, append_assoc, add_assoc}
 use Rattle.std.proofs.Math.Bool.{cond}
 use mathlib.Core.List.{List, [], ◌∷◌, ◌++◌, map}
 use Prim.Native.Nat.{ℕ, suc, ◌+◌, ◌-◌, ◌≤◌, ◌<◌}
 use Rattle.std.proofs.Math.Numerals.{add-one}
 use Rattle.std.proofs.Math.Decide.{dec_lt}
 use native.Mathlib.Omega.{arith}
-use Rattle.std.proofs.Math.ListN.{length, take}
-use Rattle.std.proofs.lemmas.List.{length-map}
+use Rattle.std.proofs.Math.ListN.{length}
+use borrow.Rule.Slice.PartMut.{put_mid, mid_of}
+use Rattle.std.proofs.lemmas.List.{length-map, set-append_right, take_all, drop_all, drop-append-le}
 use Rattle.std.proofs.lemmas.List.Edits.{sets, sets-eq}
 use Rattle.std.proofs.Math.Seq.{take-nil}
 use Rattle.words.specs.Bools.{by_test}
@@ -22,6 +23,64 @@ use Rattle.index.specs.Filling.{Buffers, buffers, entered, fill}
 
 sets_over : (xs l : List ℕ) → length xs ≤ length l → sets l 0 xs ≡ over xs l
 sets_over xs l h = sets-eq xs l 0 (omega arith) ∙ ap (λ (m : ℕ). xs ++ drop m l) (zero-add (length xs))
+
+-- in a part of a buffer and the rest behind it
+pub over_part : (xs l : List ℕ) (n : ℕ) → length xs ≤ n → n ≤ length l → over xs (take n l) ++ drop n l ≡ over xs l
+over_part xs l n few fit =
+    append_assoc xs (drop (length xs) (take n l)) (drop n l)
+    ∙ ap (λ (ys : List ℕ). xs ++ ys)
+    (sym (drop-append-le (length xs) (take n l) (drop n l) (omega (arith, length-take n l)))
+    ∙ ap (drop (length xs)) (take-append-drop n l))
+
+-- a part of the buffers filled is the whole filled from there on
+abbrev pub behind : List ℕ → List ℕ → Buffers → Buffers
+behind p q b = buffers (length p + b.used) (p ++ b.keys) (q ++ b.values)
+
+set_behind : (p xs : List ℕ) (n m v : ℕ) → n ≡ length p → set (p ++ xs) (n + m) v ≡ p ++ set xs m v
+set_behind p xs n m v e =
+    let a : n + m - n ≡ m = omega arith in set-append_right p xs n (n + m) v (sym e) (omega arith) ∙ rw a
+
+pub fill_behind : (p q : List ℕ) → length p ≡ length q → (room : ℕ) (es : List Entry) (b : Buffers)
+    → fill (length p + room) es (behind p q b) ≡ behind p q (fill room es b)
+unfolding fill
+fill_behind p q h room [] b = refl
+fill_behind p q h room (e ∷ es) b = elim (dec_lt b.used room) [
+  | yes y ↦ rw (
+    lt-ltb b.used room y,
+    lt-ltb (length p + b.used) (length p + room) (omega arith),
+    add_assoc (length p) b.used 1,
+    set_behind p b.keys (length p) b.used e.key refl,
+    set_behind q b.values (length p) b.used e.val h,
+  )
+      (fill_behind p q h room es (entered e b))
+  | no y ↦ rw (le-ltb b.used room (omega arith), le-ltb (length p + b.used) (length p + room) (omega arith))
+]
+
+-- the part from n on, as the code lends it
+module _ (n : ℕ) (ks vs : List ℕ) (inside : n ≤ length ks) (long : length ks ≡ length vs) where
+  lent : (xs : List ℕ) → mid_of n (length xs - n) xs ≡ drop n xs
+  lent xs = take_all (length xs - n) (drop n xs) (omega (arith, length-drop n xs))
+
+  given_back : (xs ys : List ℕ) → put_mid n (length xs - n) xs ys ≡ take n xs ++ ys
+  given_back xs ys =
+      ap (λ (zs : List ℕ). take n xs ++ (ys ++ zs)) (drop_all (length xs - n) (drop n xs) (omega (arith, length-drop n xs)))
+      ∙ ap (λ (zs : List ℕ). take n xs ++ zs) (append-nil ys)
+
+  pub fill_part : (es : List Entry) (m : ℕ) (ks' vs' : List ℕ)
+      → buffers m ks' vs'
+      ≡ fill (length (mid_of n (length ks - n) ks)) es (buffers 0 (mid_of n (length ks - n) ks) (mid_of n (length vs - n) vs))
+      → buffers (n + m) (put_mid n (length ks - n) ks ks') (put_mid n (length vs - n) vs vs') ≡ fill (length ks) es (buffers n ks vs)
+  fill_part es m ks' vs' is =
+      let p = take n ks in
+      let q = take n vs in
+      let k : length p ≡ n = omega (arith, length-take n ks) in
+      let w : length q ≡ n = omega (arith, length-take n vs) in
+      let z : length p + 0 ≡ n = omega arith in
+      let room : length p + length (drop n ks) ≡ length ks = omega (arith, length-drop n ks) in
+      (λ i. buffers (sym k i + m) (given_back ks ks' i) (given_back vs vs' i)) ∙ ap (behind p q) is
+      ∙ (λ i. behind p q (fill (length (lent ks i)) es (buffers 0 (lent ks i) (lent vs i))))
+      ∙ sym (fill_behind p q (k ∙ sym w) (length (drop n ks)) es (buffers 0 (drop n ks) (drop n vs)))
+      ∙ (λ i. fill (room i) es (buffers (z i) (take-append-drop n ks i) (take-append-drop n vs i)))
 
 module _ (room : ℕ) where
   pub fill_full : (es : List Entry) (b : Buffers) → room ≤ b.used → fill room es b ≡ b

@@ -1,11 +1,8 @@
 -- Each answer of find, from the tests that led to it.
-use Rattle.std.specs.Prelude.{◌≡◌, refl, Bool, true, false, cond, not, List, [], ◌∷◌, ℕ, eqb, length}
+use Rattle.std.specs.Prelude.{◌≡◌, refl, Bool, true, false, cond, not, List, [], ◌∷◌, ℕ, eqb, length, Option, Some, None, Err}
 use Rattle.std.proofs.Common.{sym, ap, ◌∙◌}
-use Rattle.std.proofs.Math.Option.{Option}
 use Rattle.leaf.specs.Leaf.{Leaf}
 use Rattle.leaf.specs.Search.{slot_of}
-use Rattle.leaf.specs.declared.search.Slot.{Slot}
-use Rattle.leaf.specs.declared.search.Slot.TheVariants.{At, Missing}
 use Rattle.steps.specs.Refusals.{answer, bad_image}
 use Rattle.image.specs.Map.{lookup}
 use Rattle.image.specs.Entries.{list_of}
@@ -15,7 +12,7 @@ use Rattle.image.specs.Image.{blocks, leaves}
 use Rattle.survey.specs.Walk.{surveyed}
 use Rattle.index.specs.Reading.{is_sound, entries_in, Told, told, found_as, is_none, value_or0, find_of}
 use Rattle.index.proofs.SoundTest.{says_yes, says_no, noted_around}
-use Rattle.index.specs.declared.find.Found.TheVariants.{BadImage, Unsound}
+use Rattle.steps.specs.declared.refusal.Refusal.TheVariants.{BadImage, Unsound}
 use Rattle.index.specs.FindLaws.{found_at}
 
 -- the answer by the three tests
@@ -33,23 +30,21 @@ noted_lookup l k fine e =
     ∙ ap (λ (bs : List ℕ). lookup k (list_of (leaves l) bs)) (sym t.whole)
 
 module _ (l : List ℕ) (k : ℕ) where
-  pub find_bad : bad_image (length l) ≡ true → found_as BadImage ≡ find_of l k
+  pub find_bad : bad_image (length l) ≡ true → found_as (Err BadImage) ≡ find_of l k
   unfolding find_of
   find_bad e = λ i. find_by (sym e i) (is_sound l) (lookup k (entries_in l))
 
-  pub find_unsound : bad_image (length l) ≡ false → ((surveyed (leaves l) (blocks l) k).stage ≡ 1 → ⊥) → found_as Unsound ≡ find_of l k
+  pub find_unsound : bad_image (length l) ≡ false → ((surveyed (leaves l) (blocks l) k).stage ≡ 1 → ⊥) → found_as (Err Unsound) ≡ find_of l k
   unfolding find_of
   find_unsound fine ne = λ i. find_by (sym fine i) (sym (says_no l k fine ne) i) (lookup k (entries_in l))
 
-  pub find_slot : bad_image (length l) ≡ false → (surveyed (leaves l) (blocks l) k).stage ≡ 1
-      → let b = (surveyed (leaves l) (blocks l) k).target in found_as (found_at (leaves l b) (slot_of (leaves l b) k)) ≡ find_of l k
+  pub find_slot : bad_image (length l) ≡ false → (surveyed (leaves l) (blocks l) k).stage ≡ 1 → (L : Leaf)
+      → L ≡ leaves l (surveyed (leaves l) (blocks l) k).target → found_as (found_at L (slot_of L k)) ≡ find_of l k
   unfolding find_of
-  find_slot fine e =
-      by (slot_of L k) ∙ (λ i. find_by (sym fine i) (sym (says_yes l k fine e) i) (noted_lookup l k fine e i))
+  find_slot fine e L is =
+      by (slot_of L k)
+      ∙ (λ i. find_by (sym fine i) (sym (says_yes l k fine e) i) ((ap (λ (M : Leaf). value_at M (slot_of M k)) is ∙ noted_lookup l k fine e) i))
     where
-      L : Leaf
-      L = leaves l (surveyed (leaves l) (blocks l) k).target
-
-      by : (x : Slot) → found_as (found_at L x) ≡ find_by false true (value_at L x)
-      by (At s) = refl
-      by Missing = refl
+      by : (x : Option ℕ) → found_as (found_at L x) ≡ find_by false true (value_at L x)
+      by (Some s) = refl
+      by None = refl

@@ -1,13 +1,15 @@
 -- One turn of each loop of listing, as a step of what the buffers are filled with, and each answer, from the tests that led
 -- to it.
-use Rattle.std.specs.Prelude.{◌≡◌, refl, true, false, ◌≢◌, eqb, length, take, drop, get_or, set}
+use Rattle.std.specs.Prelude.{◌≡◌, refl, true, false, ◌≢◌, eqb, length, take, drop, get_or, set, Ok, Err}
 use Rattle.std.proofs.Math.Path.{sym, ap}
 use Rattle.std.proofs.Common.{◌∙◌, subst, length-take, drop_of_length-le, drop-cons}
 use Rattle.std.proofs.Math.Bool.{cond, not}
-use mathlib.Core.List.{List, [], ◌∷◌, map}
+use mathlib.Core.List.{List, [], ◌∷◌, ◌++◌, map}
+use Rattle.std.proofs.lemmas.List.{length-map}
 use Prim.Native.Nat.{ℕ, suc, ◌+◌, ◌-◌, ◌≤◌, ◌<◌, min}
 use Rattle.std.proofs.Math.Numerals.{add-one}
 use native.Mathlib.Omega.{arith}
+use borrow.Rule.Slice.PartMut.{put_mid, mid_of}
 use Rattle.leaf.specs.Leaf.{Leaf, Right, leaf_in}
 use Rattle.steps.specs.Refusals.{bad_image}
 use Rattle.image.specs.Map.{Entry, starting_at}
@@ -24,9 +26,9 @@ use Rattle.index.specs.Reading.{counted, listed_as, Listing, listing_is, listed,
 use Rattle.steps.proofs.Refusals.{row_given, row_left}
 use Rattle.index.proofs.SoundTest.{says_yes, says_no, noted_around}
 use Rattle.index.specs.Filling.{Buffers, buffers, fill}
-use Rattle.index.proofs.Filling.{fill_full, fill_one, fill_append, fill_whole}
+use Rattle.index.proofs.Filling.{fill_full, fill_one, fill_append, fill_part, fill_whole, over_part}
 use Rattle.index.proofs.Along.{chain_on, chain_last, chain_over}
-use Rattle.index.specs.declared.listing.Listed.TheVariants.{Count, BadImage, Unsound}
+use Rattle.steps.specs.declared.refusal.Refusal.TheVariants.{BadImage, Unsound}
 use Rattle.index.specs.ListingLaws.{entries_from, list_from}
 
 -- ---- one leaf
@@ -48,14 +50,22 @@ module _ (L : Leaf) (room i n : ℕ) (ss ks vs : List ℕ) (whole : Buffers)
       (sym (fill_one room (entry_in L (get_or ss i 0)) (entries_at L (drop (suc i) ss)) (buffers n ks vs) has_room)
       ∙ (rw (drop-cons ss i 0 turn) at so_far))
 
--- the first so many slots of an order
-pub first_length : (order : List ℕ) (n : ℕ) → n ≤ length order → length (take n order) ≡ n
-first_length order n h = omega (arith, length-take n order)
-
 pub order_lists : (l : List ℕ) (lo : ℕ) (ss : List ℕ) → ss ≡ slots_from (leaf_in l) 14 lo
     → entries_at (leaf_in l) ss ≡ entries_from (leaf_in l) lo
 unfolding entries_from leaf_in
 order_lists l lo ss e = ap (entries_at (leaf_in l)) e
+
+-- a leaf's entries put behind the n that the buffers hold, which are lent from there on
+pub leaf_listed : (n room : ℕ) (ks vs : List ℕ) → n ≤ room → length ks ≡ room → length vs ≡ room
+    → (L M : Leaf) → L ≡ M → (lo m : ℕ) (ks' vs' : List ℕ)
+    → buffers m ks' vs'
+    ≡ fill (length (mid_of n (length ks - n) ks)) (entries_from L lo)
+    (buffers 0 (mid_of n (length ks - n) ks) (mid_of n (length vs - n) vs))
+    → buffers (n + m) (put_mid n (length ks - n) ks ks') (put_mid n (length vs - n) vs vs')
+    ≡ fill room (entries_from M lo) (buffers n ks vs)
+leaf_listed n room ks vs h k v L M e lo m ks' vs' is =
+    fill_part n ks vs (omega arith) (k ∙ sym v) (entries_from L lo) m ks' vs' is
+    ∙ (λ i. fill (k i) (entries_from (e i) lo) (buffers n ks vs))
 
 -- ---- the leaves of a chain
 
@@ -127,29 +137,41 @@ listing_on es ks vs n =
     (listing_is (counted n 0) ks vs)
 
 module _ (l : List ℕ) (from : ℕ) (ks vs : List ℕ) where
-  pub listing_bad : bad_image (length l) ≡ true → listing_is (listed_as BadImage) ks vs ≡ listing_of l from ks vs
+  pub listing_bad : bad_image (length l) ≡ true → listing_is (listed_as (Err BadImage)) ks vs ≡ listing_of l from ks vs
   unfolding listing_of
   listing_bad e = sym (ap (listing_on (listed l from ks vs) ks vs) (row_given 1 _ e))
 
   pub listing_unsound : bad_image (length l) ≡ false → ((surveyed (leaves l) (blocks l) from).stage ≡ 1 → ⊥)
-      → listing_is (listed_as Unsound) ks vs ≡ listing_of l from ks vs
+      → listing_is (listed_as (Err Unsound)) ks vs ≡ listing_of l from ks vs
   unfolding listing_of
   listing_unsound fine ne =
       sym (ap (listing_on (listed l from ks vs) ks vs) (row_left 1 _ fine ∙ row_given 3 0 (ap not (says_no l from fine ne))))
 
+  -- into the parts of both buffers that are as long as the shorter
   pub listing_done : bad_image (length l) ≡ false → (surveyed (leaves l) (blocks l) from).stage ≡ 1
       → (room b n : ℕ) (ks' vs' : List ℕ) → room ≡ min (length ks) (length vs) → b ≡ (surveyed (leaves l) (blocks l) from).target
-      → buffers n ks' vs' ≡ fill room (list_from (leaves l) from (chain_from (leaves l) (blocks l) b)) (buffers 0 ks vs)
-      → listing_is (listed_as (Count n)) ks' vs' ≡ listing_of l from ks vs
+      → buffers n ks' vs'
+      ≡ fill (length (take room ks)) (list_from (leaves l) from (chain_from (leaves l) (blocks l) b))
+      (buffers 0 (take room ks) (take room vs))
+      → listing_is (listed_as (Ok n)) (ks' ++ drop room ks) (vs' ++ drop room vs) ≡ listing_of l from ks vs
   unfolding listing_of
   listing_done fine e room b n ks' vs' r t is =
+      let es = take room (starting_at from (entries_in l)) in
+      let k : length (take room ks) ≡ room = omega (arith, length-take room ks) in
+      let v : length (take room vs) ≡ room = omega (arith, length-take room vs) in
       let whole = is
-      ∙ ap (λ (x : ℕ). fill room (list_from (leaves l) from (chain_from (leaves l) (blocks l) x)) (buffers 0 ks vs)) t
-      ∙ ap (λ (es : List Entry). fill room es (buffers 0 ks vs)) (target_lists l from fine e)
-      ∙ fill_whole room (starting_at from (entries_in l)) ks vs (omega arith) (omega arith)
-      ∙ ap (λ (m : ℕ). filled (take m (starting_at from (entries_in l)))) r in
-      ap (λ (x : Buffers). listing_is (counted 0 x.used) x.keys x.values) whole
+      ∙ (λ i. fill (k i) (list_from (leaves l) from (chain_from (leaves l) (blocks l) (t i))) (buffers 0 (take room ks) (take room vs)))
+      ∙ ap (λ (fs : List Entry). fill room fs (buffers 0 (take room ks) (take room vs))) (target_lists l from fine e)
+      ∙ fill_whole room (starting_at from (entries_in l)) (take room ks) (take room vs) (omega arith) (omega arith) in
+      ap (λ (x : Buffers). listing_is (counted 0 x.used) (x.keys ++ drop room ks) (x.values ++ drop room vs)) whole
+      ∙ (λ i. listing_is (counted 0 (length es))
+      (over_part (map (λ e. e.key) es) ks room (few (λ e. e.key)) (omega arith) i)
+      (over_part (map (λ e. e.val) es) vs room (few (λ e. e.val)) (omega arith) i))
+      ∙ ap (λ (m : ℕ). done (take m (starting_at from (entries_in l)))) r
       ∙ sym (ap (listing_on (listed l from ks vs) ks vs) (row_left 1 _ fine ∙ row_left 3 0 (ap not (says_yes l from fine e))))
     where
-      filled : List Entry → Buffers
-      filled es = buffers (length es) (over (map (λ e. e.key) es) ks) (over (map (λ e. e.val) es) vs)
+      few : (f : Entry → ℕ) → length (map f (take room (starting_at from (entries_in l)))) ≤ room
+      few f = omega (arith, length-map (take room (starting_at from (entries_in l))) f, length-take room (starting_at from (entries_in l)))
+
+      done : List Entry → Listing
+      done es = listing_is (counted 0 (length es)) (over (map (λ e. e.key) es) ks) (over (map (λ e. e.val) es) vs)

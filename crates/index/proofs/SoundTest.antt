@@ -1,11 +1,13 @@
 -- The test `is_sound` is image's `SoundImage`, whatever key the survey was told; and then the survey's notes are those of the chain.
-use Rattle.std.specs.Prelude.{◌≡◌, Bool, true, false, cond, List, [], ◌∷◌, ◌++◌, ◌≢◌, ℕ, zero, suc, ◌+◌, ◌*◌, ◌≤◌, ◌<◌, length}
+use Rattle.std.specs.Prelude.{◌≡◌, Bool, true, false, cond, List, [], ◌∷◌, ◌++◌, ◌≢◌, ℕ, zero, suc, ◌+◌, ◌*◌, ◌≤◌, ◌<◌, eqb, length}
 use Rattle.std.proofs.Common.{sym, ap, ◌∙◌, subst, inl, inr, arith, length-append}
 use borrow.Author.Tests.{eq-eqb, ne_eqb, eqb-true}
+use Rattle.std.proofs.lemmas.Bool.{eqb-false}
 use Rattle.words.specs.Words.{reads}
 use Rattle.leaf.specs.Leaf.{Leaf, Taken}
 use Rattle.steps.specs.Refusals.{bad_image}
-use Rattle.survey.specs.Walk.{surveyed}
+use Rattle.survey.specs.declared.walk.Walk.{Walk}
+use Rattle.survey.specs.Walk.{State, state_of, surveyed}
 use Rattle.survey.specs.Turns.{Bounded, surveyed_bounded}
 use Rattle.image.specs.Chain.{All, Links, Sound}
 use Rattle.image.proofs.ChainLaws.{all_split, links_split}
@@ -55,6 +57,14 @@ module _ (l : List ℕ) (key : ℕ) (fine : bad_image (length l) ≡ false) wher
   unfolding is_sound
   says_no ne = ne_eqb (surveyed (leaves l) (blocks l) 0).stage 1 (λ e.
       let s = survey_sound l 0 fine e in ne (sound_survey l key fine (record { chain = s.chain; sound = s.sound })))
+
+-- what the check of the survey's walk says of the survey
+module _ (l : List ℕ) (key : ℕ) (w : Walk) (told : state_of w ≡ surveyed (leaves l) (blocks l) key) where
+  pub walk_sound : (state_of w).stage ≡ 1 → (surveyed (leaves l) (blocks l) key).stage ≡ 1
+  walk_sound e = sym (ap (λ (st : State). st.stage) told) ∙ e
+
+  pub walk_unsound : eqb (state_of w).stage 1 ≡ false → (surveyed (leaves l) (blocks l) key).stage ≡ 1 → ⊥
+  walk_unsound e z = eqb-false (state_of w).stage 1 e (ap (λ (st : State). st.stage) told ∙ z)
 
 -- ---- the chain as the function finds it
 

@@ -3,5 +3,4 @@ pub mod Reading
 pub mod FindLaws
 pub mod Filling
 pub mod ListingLaws
-pub mod RecoveryLaws
 pub mod Agreement

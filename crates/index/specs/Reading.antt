@@ -1,28 +1,14 @@
 -- What find, listing and recovery answer, for all inputs. To be believed: this is their whole contract.
-use Rattle.std.specs.Prelude.{Bool, true, false, cond, not, ◌||◌, List, [], ◌∷◌, ◌++◌, map, ℕ, zero, suc, min, eqb, ltb, length, take, drop}
-use Rattle.std.proofs.Math.Option.{Option, some, none}
+use Rattle.std.specs.Prelude.{Bool, true, false, cond, not, ◌||◌, List, [], ◌∷◌, ◌++◌, map, ℕ, zero, suc, min, eqb, ltb, length, take, drop, Option, Some, None, Result, Ok, Err}
 use Rattle.leaf.specs.Leaf.{Leaf}
 use Rattle.leaf.specs.Search.{smallest_of}
-use Rattle.steps.specs.Refusals.{answer, bad_image}
+use Rattle.steps.specs.declared.refusal.Refusal.{Refusal}
+use Rattle.steps.specs.Refusals.{answer, bad_image, number_of}
 use Rattle.image.specs.Map.{Entry, lookup, starting_at}
 use Rattle.image.specs.Entries.{list_of}
 use Rattle.image.specs.Image.{blocks, leaves}
 use Rattle.survey.specs.Walk.{surveyed}
-use Rattle.index.specs.declared.find.Found.{Found}
-use Rattle.index.specs.declared.find.Found.TheVariants.{Value, BadImage, Unsound, Absent}
-use Rattle.index.specs.declared.listing.Listed.{Listed}
-use Rattle.index.specs.declared.listing.Listed.TheVariants.{
-  Count,
-  BadImage as ListedBadImage,
-  Unsound as ListedUnsound,
-}
 use Rattle.index.specs.declared.recovery.Recovered.{Recovered}
-use Rattle.index.specs.declared.recovery.Recovered.TheVariants.{
-  Leaves,
-  BadImage as RecoveredBadImage,
-  ShortBuffer,
-  Unsound as RecoveredUnsound,
-}
 
 -- ---- the image
 
@@ -52,19 +38,17 @@ pub record Told : Type 0 where
 abbrev pub told : ℕ → ℕ → Told
 told n v = record { answer = n; value = v }
 
-abbrev pub found_as : Found → Told
-found_as (Value v) = told 0 v
-found_as BadImage = told 1 0
-found_as Unsound = told 3 0
-found_as Absent = told 5 0
+abbrev pub found_as : Result ℕ Refusal → Told
+found_as (Ok v) = told 0 v
+found_as (Err r) = told (number_of r) 0
 
 abbrev pub is_none : Option ℕ → Bool
-is_none (some v) = false
-is_none none = true
+is_none (Some v) = false
+is_none None = true
 
 abbrev pub value_or0 : Option ℕ → ℕ
-value_or0 (some v) = v
-value_or0 none = 0
+value_or0 (Some v) = v
+value_or0 None = 0
 
 -- "Order: 1, 2, 8, 3, 4, 5, 6 as they apply": 1, 3 and 5, "find, set, del: key absent"
 abbrev pub find_table : List ℕ → ℕ → List (ℕ × Bool)
@@ -84,10 +68,9 @@ pub record Counted : Type 0 where
 abbrev pub counted : ℕ → ℕ → Counted
 counted n m = record { answer = n; count = m }
 
-abbrev pub listed_as : Listed → Counted
-listed_as (Count m) = counted 0 m
-listed_as ListedBadImage = counted 1 0
-listed_as ListedUnsound = counted 3 0
+abbrev pub listed_as : Result ℕ Refusal → Counted
+listed_as (Ok m) = counted 0 m
+listed_as (Err r) = counted (number_of r) 0
 
 -- what it tells, and what the two buffers hold then
 pub record Listing : Type 0 where
@@ -128,11 +111,9 @@ pub record Sizes : Type 0 where
 abbrev pub sizes : ℕ → ℕ → ℕ → Sizes
 sizes n b m = record { answer = n; leaves = b; entries = m }
 
-abbrev pub recovered_as : Recovered → Sizes
-recovered_as (Leaves b m) = sizes 0 b m
-recovered_as RecoveredBadImage = sizes 1 0 0
-recovered_as ShortBuffer = sizes 8 0 0
-recovered_as RecoveredUnsound = sizes 3 0 0
+abbrev pub recovered_as : Result Recovered Refusal → Sizes
+recovered_as (Ok r) = sizes 0 r.leaves r.entries
+recovered_as (Err r) = sizes (number_of r) 0 0
 
 -- what it tells, and what the two buffers hold then
 pub record Recovery : Type 0 where

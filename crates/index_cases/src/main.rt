@@ -5,20 +5,18 @@
 mod images;
 mod tell;
 
-ghost use Rattle.std.specs.Prelude.{◌+◌, ◌≤◌, ◌<◌, length};
+ghost use Rattle.std.specs.Prelude.{◌+◌, ◌≤◌, ◌<◌};
 
-use crate::images::{LAST, build, build_long, enter, link};
-use crate::tell::{
-    end_line, find, list, recover, tell, tell_all, tell_first, tell_image, tell_recovered,
-};
+use crate::images::{enter, four_blocks, link, long_chain};
+use crate::tell::{find, list, recover, tell_image, tell_recovered};
 use std::io;
+use telling::{end_line, tell, tell_all};
 
 // The image of four blocks with one word stored.
 fn stored(rt: &impl Print, place: usize, value: u64) -> io::Result<()>
     requires { place + 8 ≤ 1024 }
 {
-    let mut image = [0u8; 1024];
-    build(&mut image);
+    let mut image = four_blocks();
     words::set_word(&mut image, place, value);
     tell_image(rt, &image)
 }
@@ -27,8 +25,7 @@ fn stored(rt: &impl Print, place: usize, value: u64) -> io::Result<()>
 fn changed(rt: &impl Print, place: usize, value: u8) -> io::Result<()>
     requires { place < 1024 }
 {
-    let mut image = [0u8; 1024];
-    build(&mut image);
+    let mut image = four_blocks();
     image[place] = value;
     tell_image(rt, &image)
 }
@@ -37,8 +34,7 @@ fn changed(rt: &impl Print, place: usize, value: u8) -> io::Result<()>
 fn entered(rt: &impl Print, block: usize, s: usize, key: u64) -> io::Result<()>
     requires { (block < 4) × (s < 14) }
 {
-    let mut image = [0u8; 1024];
-    build(&mut image);
+    let mut image = four_blocks();
     enter(&mut image, block, s, key, 1);
     tell_image(rt, &image)
 }
@@ -98,69 +94,55 @@ fn outside(rt: &impl Print) -> io::Result<()> {
 
 // Refusal 1 before 8 and 3: lengths 0, 1,023 and 65,792.
 fn lengths(rt: &impl Print) -> io::Result<()> {
-    let mut image = [0u8; 1024];
-    build(&mut image);
-    tell_first(rt, &image, 0)?;
-    tell_first(rt, &image, 1023)?;
+    let image = four_blocks();
+    for n in [0, 1023] {
+        tell_image(rt, &image[..n])?;
+    }
     let long = [0u8; 65792];
     tell_image(rt, &long)
 }
 
 fn listings(rt: &impl Print) -> io::Result<()> {
-    let mut image = [0u8; 1024];
-    build(&mut image);
-    list(rt, &image, 0, 6, 6)?;
-    end_line(rt)?;
-    list(rt, &image, 0, 0, 6)?;
-    end_line(rt)?;
-    list(rt, &image, 0, 6, 0)?;
-    end_line(rt)?;
-    list(rt, &image, 0, 1, 1)?;
-    end_line(rt)?;
-    list(rt, &image, 0, 5, 3)?;
-    end_line(rt)?;
-    list(rt, &image, 10, 4, 4)?;
-    end_line(rt)?;
-    list(rt, &image, 11, 4, 4)?;
-    end_line(rt)?;
-    list(rt, &image, 31, 4, 4)?;
-    end_line(rt)?;
-    list(rt, &image, LAST, 4, 4)?;
-    end_line(rt)
+    let image = four_blocks();
+    let asked = [
+        (0, 6, 6),
+        (0, 0, 6),
+        (0, 6, 0),
+        (0, 1, 1),
+        (0, 5, 3),
+        (10, 4, 4),
+        (11, 4, 4),
+        (31, 4, 4),
+        (u64::MAX, 4, 4),
+    ];
+    for (from, k, v) in asked {
+        list(rt, &image, from, k, v)?;
+        end_line(rt)?;
+    }
+    Ok(())
 }
 
 fn finds(rt: &impl Print) -> io::Result<()> {
-    let mut image = [0u8; 1024];
-    build(&mut image);
-    find(rt, &image, 5)?;
-    find(rt, &image, 10)?;
-    find(rt, &image, 30)?;
-    find(rt, &image, LAST)?;
-    find(rt, &image, 0)?;
-    find(rt, &image, 15)?;
-    find(rt, &image, 31)?;
+    let image = four_blocks();
+    for key in [5, 10, 30, u64::MAX, 0, 15, 31] {
+        find(rt, &image, key)?;
+    }
     end_line(rt)
-}
-
-fn recover_first(rt: &impl Print, image: &[u8], n: usize) -> io::Result<()>
-    requires { n ≤ length image.now }
-{
-    recover(rt, &image[0..n], 0, 0)
 }
 
 // Refusal 8: either buffer under N elements, before 3 and after 1.
 fn shorts(rt: &impl Print) -> io::Result<()> {
-    let mut image = [0u8; 1024];
-    build(&mut image);
+    let mut image = four_blocks();
     recover(rt, &image, 3, 4)?;
     end_line(rt)?;
     recover(rt, &image, 4, 3)?;
     end_line(rt)?;
     link(&mut image, 1, 4);
-    recover(rt, &image, 4, 0)?;
-    end_line(rt)?;
-    recover_first(rt, &image, 1000)?;
-    end_line(rt)
+    for (n, k) in [(1024, 4), (1000, 0)] {
+        recover(rt, &image[..n], k, 0)?;
+        end_line(rt)?;
+    }
+    Ok(())
 }
 
 // One block: blank, and with keys 0 and 2^64 - 1, which both have the fingerprint 0.
@@ -170,10 +152,10 @@ fn one_block(rt: &impl Print) -> io::Result<()> {
     list(rt, &image, 0, 2, 2)?;
     recover(rt, &image, 1, 1)?;
     end_line(rt)?;
-    enter(&mut image, 0, 9, LAST, 1);
+    enter(&mut image, 0, 9, u64::MAX, 1);
     enter(&mut image, 0, 2, 0, 2);
     find(rt, &image, 0)?;
-    find(rt, &image, LAST)?;
+    find(rt, &image, u64::MAX)?;
     list(rt, &image, 0, 3, 3)?;
     list(rt, &image, 1, 3, 3)?;
     recover(rt, &image, 1, 1)?;
@@ -186,10 +168,8 @@ fn tell_long(rt: &impl Print, image: &[u8]) -> io::Result<()> {
     find(rt, image, 2551)?;
     find(rt, image, 2552)?;
     list(rt, image, 2541, 4, 4)?;
-    tell_recovered(
-        rt,
-        index::recovery::recovery(image, &mut smallest, &mut blocks),
-    )?;
+    let told = index::recovery::recovery(image, &mut smallest, &mut blocks);
+    tell_recovered(rt, told)?;
     tell(rt, smallest[0])?;
     tell(rt, blocks[0])?;
     tell_all(rt, &smallest[254..])?;
@@ -199,8 +179,7 @@ fn tell_long(rt: &impl Print, image: &[u8]) -> io::Result<()> {
 
 // 256 blocks: a chain of all of them whose last sibling is N, then 0; and blank.
 fn many_blocks(rt: &impl Print) -> io::Result<()> {
-    let mut image = [0u8; 65536];
-    build_long(&mut image);
+    let mut image = long_chain();
     tell_long(rt, &image)?;
     link(&mut image, 255, 0);
     tell_long(rt, &image)?;
@@ -209,8 +188,7 @@ fn many_blocks(rt: &impl Print) -> io::Result<()> {
 }
 
 fn main(rt: HostRuntime) -> io::Result<()> {
-    let mut image = [0u8; 1024];
-    build(&mut image);
+    let image = four_blocks();
     tell_image(&rt, &image)?;
     locks(&rt)?;
     siblings(&rt)?;

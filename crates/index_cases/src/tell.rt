@@ -1,85 +1,34 @@
 // What a call answers, in document 01's numbers, and what the buffers lent to it hold.
-ghost use Rattle.std.specs.Prelude.{◌≤◌, length};
+ghost use Rattle.std.specs.Prelude.{◌≤◌};
 
-use index::find::Found;
-use index::listing::Listed;
 use index::recovery::Recovered;
 use std::io;
+use steps::Refusal;
+use telling::{end_line, tell, tell_all};
 
-pub fn tell(rt: &impl Print, n: u64) -> io::Result<()> {
-    print!(rt; "{n} ")
-}
-
-pub fn end_line(rt: &impl Print) -> io::Result<()> {
-    println!(rt)
-}
-
-pub fn tell_all(rt: &impl Print, list: &[u64]) -> io::Result<()> {
-    let mut i = 0;
-    while i < list.len() {
-        tell(rt, list[i])?;
-        i += 1;
-    }
-    Ok(())
-}
-
-pub fn tell_found(rt: &impl Print, found: Found) -> io::Result<()> {
-    match found {
-        Found::Value(v) => {
+// What find or listing answers: the number, then the value or count, which is 0 where the call is refused.
+pub fn tell_answer(rt: &impl Print, answer: Result<u64, Refusal>) -> io::Result<()> {
+    match answer {
+        Ok(value) => {
             tell(rt, 0)?;
-            tell(rt, v)
+            tell(rt, value)
         }
-        Found::BadImage => {
-            tell(rt, 1)?;
-            tell(rt, 0)
-        }
-        Found::Unsound => {
-            tell(rt, 3)?;
-            tell(rt, 0)
-        }
-        Found::Absent => {
-            tell(rt, 5)?;
+        Err(refusal) => {
+            tell(rt, u64::from(refusal))?;
             tell(rt, 0)
         }
     }
 }
 
-pub fn tell_listed(rt: &impl Print, listed: Listed) -> io::Result<()> {
-    match listed {
-        Listed::Count(n) => {
-            tell(rt, 0)?;
-            tell(rt, n)
-        }
-        Listed::BadImage => {
-            tell(rt, 1)?;
-            tell(rt, 0)
-        }
-        Listed::Unsound => {
-            tell(rt, 3)?;
-            tell(rt, 0)
-        }
-    }
-}
-
-pub fn tell_recovered(rt: &impl Print, recovered: Recovered) -> io::Result<()> {
+pub fn tell_recovered(rt: &impl Print, recovered: Result<Recovered, Refusal>) -> io::Result<()> {
     match recovered {
-        Recovered::Leaves(leaves, entries) => {
+        Ok(Recovered { leaves, entries }) => {
             tell(rt, 0)?;
             tell(rt, leaves)?;
             tell(rt, entries)
         }
-        Recovered::BadImage => {
-            tell(rt, 1)?;
-            tell(rt, 0)?;
-            tell(rt, 0)
-        }
-        Recovered::ShortBuffer => {
-            tell(rt, 8)?;
-            tell(rt, 0)?;
-            tell(rt, 0)
-        }
-        Recovered::Unsound => {
-            tell(rt, 3)?;
+        Err(refusal) => {
+            tell(rt, u64::from(refusal))?;
             tell(rt, 0)?;
             tell(rt, 0)
         }
@@ -89,33 +38,7 @@ pub fn tell_recovered(rt: &impl Print, recovered: Recovered) -> io::Result<()> {
 // ---- the calls, into buffers whose elements are all 9
 
 pub fn find(rt: &impl Print, image: &[u8], key: u64) -> io::Result<()> {
-    tell_found(rt, index::find::find(image, key))
-}
-
-fn list_into(
-    rt: &impl Print,
-    image: &[u8],
-    from: u64,
-    keys: &mut [u64],
-    values: &mut [u64],
-) -> io::Result<()> {
-    tell_listed(rt, index::listing::listing(image, from, keys, values))?;
-    tell_all(rt, keys)?;
-    tell_all(rt, values)
-}
-
-fn list_parts(
-    rt: &impl Print,
-    image: &[u8],
-    from: u64,
-    keys: &mut [u64],
-    k: usize,
-    values: &mut [u64],
-    v: usize,
-) -> io::Result<()>
-    requires { (k ≤ length keys.old) × (v ≤ length values.old) }
-{
-    list_into(rt, image, from, &mut keys[0..k], &mut values[0..v])
+    tell_answer(rt, index::find::find(image, key))
 }
 
 pub fn list(rt: &impl Print, image: &[u8], from: u64, k: usize, v: usize) -> io::Result<()>
@@ -123,31 +46,11 @@ pub fn list(rt: &impl Print, image: &[u8], from: u64, k: usize, v: usize) -> io:
 {
     let mut keys = [9u64; 6];
     let mut values = [9u64; 6];
-    list_parts(rt, image, from, &mut keys, k, &mut values, v)
-}
-
-fn recover_into(
-    rt: &impl Print,
-    image: &[u8],
-    smallest: &mut [u64],
-    blocks: &mut [u64],
-) -> io::Result<()> {
-    tell_recovered(rt, index::recovery::recovery(image, smallest, blocks))?;
-    tell_all(rt, smallest)?;
-    tell_all(rt, blocks)
-}
-
-fn recover_parts(
-    rt: &impl Print,
-    image: &[u8],
-    smallest: &mut [u64],
-    k: usize,
-    blocks: &mut [u64],
-    v: usize,
-) -> io::Result<()>
-    requires { (k ≤ length smallest.old) × (v ≤ length blocks.old) }
-{
-    recover_into(rt, image, &mut smallest[0..k], &mut blocks[0..v])
+    let keys = &mut keys[..k];
+    let values = &mut values[..v];
+    tell_answer(rt, index::listing::listing(image, from, keys, values))?;
+    tell_all(rt, keys)?;
+    tell_all(rt, values)
 }
 
 pub fn recover(rt: &impl Print, image: &[u8], k: usize, v: usize) -> io::Result<()>
@@ -155,7 +58,11 @@ pub fn recover(rt: &impl Print, image: &[u8], k: usize, v: usize) -> io::Result<
 {
     let mut smallest = [9u64; 4];
     let mut blocks = [9u64; 4];
-    recover_parts(rt, image, &mut smallest, k, &mut blocks, v)
+    let smallest = &mut smallest[..k];
+    let blocks = &mut blocks[..v];
+    tell_recovered(rt, index::recovery::recovery(image, smallest, blocks))?;
+    tell_all(rt, smallest)?;
+    tell_all(rt, blocks)
 }
 
 // Find 20, list from 6 on into two keys and three values, recover into four each.
@@ -164,10 +71,4 @@ pub fn tell_image(rt: &impl Print, image: &[u8]) -> io::Result<()> {
     list(rt, image, 6, 2, 3)?;
     recover(rt, image, 4, 4)?;
     end_line(rt)
-}
-
-pub fn tell_first(rt: &impl Print, image: &[u8], n: usize) -> io::Result<()>
-    requires { n ≤ length image.now }
-{
-    tell_image(rt, &image[0..n])
 }

@@ -1,6 +1,6 @@
 -- What a caller knows of a search without its recursion: it finds a slot exactly when one passes, and that slot is the lowest, the
 -- least or, in a right leaf, the only one.
-use Rattle.std.specs.Prelude.{◌≡◌, Bool, not, ◌≢◌, leb, eqb}
+use Rattle.std.specs.Prelude.{◌≡◌, Bool, not, ◌≢◌, leb, eqb, Option, Some, None}
 use Rattle.std.proofs.Math.Path.{refl}
 use Rattle.std.proofs.Common.{sym, ◌∙◌}
 use Rattle.std.proofs.Math.Bool.{true, false}
@@ -12,8 +12,6 @@ use Rattle.words.specs.Bools.{both, both_true, by_test, differ, never, not_so}
 use Rattle.header.specs.Header.{fingerprint_of}
 use Rattle.leaf.specs.Leaf.{Leaf, Taken, Right}
 use Rattle.leaf.specs.Search.{pick_slot, lowest, holds_key, slot_of, lowest_vacant, nearer, closer, closest, least_from}
-use Rattle.leaf.specs.declared.search.Slot.{Slot}
-use Rattle.leaf.specs.declared.search.Slot.TheVariants.{At, Missing}
 
 -- ---- the lowest slot that passes a test
 
@@ -28,12 +26,12 @@ module _ (f : ℕ → Bool) where
   first_more : (i s : ℕ) → f i ≡ false → ((t : ℕ) → suc i ≤ t → t < s → f t ≡ false) → (t : ℕ) → i ≤ t → t < s → f t ≡ false
   first_more i s e h t a b = elim (ℕ_discrete t i) [ yes p ↦ rw p e | no p ↦ h t (omega arith) b ]
 
-  pub lowest_at : (n i s : ℕ) → lowest f n i ≡ At s → Lowest f n i s
+  pub lowest_at : (n i s : ℕ) → lowest f n i ≡ Some s → Lowest f n i s
   unfolding lowest
   lowest_at zero i s e = never cc
   lowest_at (suc n) i s e = by (lowest_at n (suc i) s) (f i) refl e
     where
-      by : (lowest f n (suc i) ≡ At s → Lowest f n (suc i) s) → (b : Bool) → f i ≡ b → pick_slot b i (lowest f n (suc i)) ≡ At s
+      by : (lowest f n (suc i) ≡ Some s → Lowest f n (suc i) s) → (b : Bool) → f i ≡ b → pick_slot b i (lowest f n (suc i)) ≡ Some s
           → Lowest f (suc n) i s
       by ih true p q =
           let x : i ≡ s = cc in
@@ -42,17 +40,17 @@ module _ (f : ℕ → Bool) where
           let r = ih q in
           record { from = omega arith; below = omega arith; passes = r.passes; first = first_more i s p r.first }
 
-  pub lowest_none : (n i : ℕ) → lowest f n i ≡ Missing → (t : ℕ) → i ≤ t → t < i + n → f t ≡ false
+  pub lowest_none : (n i : ℕ) → lowest f n i ≡ None → (t : ℕ) → i ≤ t → t < i + n → f t ≡ false
   unfolding lowest
   lowest_none zero i e t a b = absurd (omega arith)
   lowest_none (suc n) i e t a b = by (lowest_none n (suc i)) (f i) refl e
     where
-      by : (lowest f n (suc i) ≡ Missing → (t : ℕ) → suc i ≤ t → t < suc i + n → f t ≡ false) → (b : Bool) → f i ≡ b
-          → pick_slot b i (lowest f n (suc i)) ≡ Missing → f t ≡ false
+      by : (lowest f n (suc i) ≡ None → (t : ℕ) → suc i ≤ t → t < suc i + n → f t ≡ false) → (b : Bool) → f i ≡ b
+          → pick_slot b i (lowest f n (suc i)) ≡ None → f t ≡ false
       by ih true p q = never cc
       by ih false p q = first_more i (i + suc n) p (λ u c d. ih q u c (omega arith)) t a b
 
-  pub lowest_is : (n i s : ℕ) → Lowest f n i s → lowest f n i ≡ At s
+  pub lowest_is : (n i s : ℕ) → Lowest f n i s → lowest f n i ≡ Some s
   unfolding lowest
   lowest_is zero i s r = absurd (omega arith)
   lowest_is (suc n) i s r =
@@ -63,7 +61,7 @@ module _ (f : ℕ → Bool) where
             (record { from = omega arith; below = omega arith; passes = r.passes; first = λ t a b. r.first t (omega arith) b }))
       ]
 
-  pub lowest_not : (n i : ℕ) → ((t : ℕ) → i ≤ t → t < i + n → f t ≡ false) → lowest f n i ≡ Missing
+  pub lowest_not : (n i : ℕ) → ((t : ℕ) → i ≤ t → t < i + n → f t ≡ false) → lowest f n i ≡ None
   unfolding lowest
   lowest_not zero i h = refl
   lowest_not (suc n) i h = rw (h i (omega arith) (omega arith)) (lowest_not n (suc i) (λ t a b. h t (omega arith) (omega arith)))
@@ -76,14 +74,14 @@ lowest_same f g (suc n) i h =
     rw (h i (omega arith) (omega arith), lowest_same f g n (suc i) (λ t a b. h t (omega arith) (omega arith)))
 
 -- the lowest vacant slot
-pub vacant_at : (occ : ℕ → Bool) (n s : ℕ) → lowest_vacant occ n ≡ At s → (s < n) × (occ s ≡ false) ×
+pub vacant_at : (occ : ℕ → Bool) (n s : ℕ) → lowest_vacant occ n ≡ Some s → (s < n) × (occ s ≡ false) ×
     ((t : ℕ) → t < s → occ t ≡ true)
 unfolding lowest_vacant
 vacant_at occ n s e =
     let r = lowest_at (λ s. not (occ s)) n 0 s e in
     (omega arith, not-true (occ s) r.passes, λ t b. not-false (occ t) (r.first t (omega arith) b))
 
-pub vacant_none : (occ : ℕ → Bool) (n : ℕ) → lowest_vacant occ n ≡ Missing → (t : ℕ) → t < n → occ t ≡ true
+pub vacant_none : (occ : ℕ → Bool) (n : ℕ) → lowest_vacant occ n ≡ None → (t : ℕ) → t < n → occ t ≡ true
 unfolding lowest_vacant
 vacant_none occ n e t b = not-false (occ t) (lowest_none (λ s. not (occ s)) n 0 e t (omega arith) (omega arith))
 
@@ -107,13 +105,13 @@ module _ (L : Leaf) (k : ℕ) where
   unfolding holds_key
   means_holds s h = rw (h.taken, eq-eqb (L.fp s) (fingerprint_of k) h.print, eq-eqb (L.key s) k h.key)
 
-  pub slot_at : (s : ℕ) → slot_of L k ≡ At s → (s < L.size) × Holds L k s
+  pub slot_at : (s : ℕ) → slot_of L k ≡ Some s → (s < L.size) × Holds L k s
   unfolding slot_of
   slot_at s e = let r = lowest_at (holds_key L k) L.size 0 s e in (omega arith, holds_means s r.passes)
 
 -- in a right leaf the search finds every key, in the one slot that has it
 module _ (L : Leaf) (r : Right L) where
-  pub slot_of_lem : (s : ℕ) → Taken L s → slot_of L (L.key s) ≡ At s
+  pub slot_of_lem : (s : ℕ) → Taken L s → slot_of L (L.key s) ≡ Some s
   unfolding slot_of
   slot_of_lem s o =
       lowest_is (holds_key L (L.key s)) L.size 0 s
@@ -126,9 +124,9 @@ module _ (L : Leaf) (r : Right L) where
             let x : t ≡ s = r.differ t s h.taken o h.key in omega arith);
       })
 
-  pub slot_missing : (k : ℕ) → slot_of L k ≡ Missing → (s : ℕ) → Taken L s → L.key s ≢ k
+  pub slot_missing : (k : ℕ) → slot_of L k ≡ None → (s : ℕ) → Taken L s → L.key s ≢ k
   slot_missing k e s o p =
-      let x : At s ≡ Missing = sym (slot_of_lem s o) ∙ rw p e in never cc
+      let x : Some s ≡ None = sym (slot_of_lem s o) ∙ rw p e in never cc
 
 -- ---- the least key from k on
 
@@ -140,15 +138,15 @@ pub record Least (L : Leaf) (k n s : ℕ) : Type 0 where
   pub least : (t : ℕ) → t < n → Taken L t → k ≤ L.key t → L.key s ≤ L.key t
 
 -- what an answer for the first n slots says
-abbrev pub Answers : Leaf → ℕ → ℕ → Slot → Type 0
-Answers L k n (At s) = Least L k n s
-Answers L k n Missing = (t : ℕ) → t < n → Taken L t → L.key t < k
+abbrev pub Answers : Leaf → ℕ → ℕ → Option ℕ → Type 0
+Answers L k n (Some s) = Least L k n s
+Answers L k n None = (t : ℕ) → t < n → Taken L t → L.key t < k
 
 module _ (L : Leaf) (k : ℕ) where
   -- slot n does not count
-  passed : (n : ℕ) (best : Slot) → (Taken L n → k ≤ L.key n → nearer L n best ≡ false) → Answers L k n best → Answers L k
+  passed : (n : ℕ) (best : Option ℕ) → (Taken L n → k ≤ L.key n → nearer L n best ≡ false) → Answers L k n best → Answers L k
       (suc n) best
-  passed n (At s) f a = record {
+  passed n (Some s) f a = record {
     below = omega (arith, a.below);
     taken = a.taken;
     from = a.from;
@@ -158,7 +156,7 @@ module _ (L : Leaf) (k : ℕ) where
       | no ne ↦ a.least t (omega arith) o c
     ];
   }
-  passed n Missing f a = λ t b o.
+  passed n None f a = λ t b o.
       elim (ℕ_discrete t n) [
         | yes e ↦ elim (dec_lt (L.key t) k) [
           | yes l ↦ l
@@ -168,8 +166,8 @@ module _ (L : Leaf) (k : ℕ) where
       ]
 
   -- slot n is the new best
-  taken_on : (n : ℕ) (best : Slot) → Taken L n → k ≤ L.key n → nearer L n best ≡ true → Answers L k n best → Least L k (suc n) n
-  taken_on n (At s) o c e a = record {
+  taken_on : (n : ℕ) (best : Option ℕ) → Taken L n → k ≤ L.key n → nearer L n best ≡ true → Answers L k n best → Least L k (suc n) n
+  taken_on n (Some s) o c e a = record {
     below = omega arith;
     taken = o;
     from = c;
@@ -178,7 +176,7 @@ module _ (L : Leaf) (k : ℕ) where
       | no ne ↦ omega (arith, ltb-true (L.key n) (L.key s) e, a.least t (omega arith) p d)
     ];
   }
-  taken_on n Missing o c e a = record {
+  taken_on n None o c e a = record {
     below = omega arith;
     taken = o;
     from = c;
@@ -193,7 +191,7 @@ module _ (L : Leaf) (k : ℕ) where
   answers zero = λ t b o. absurd (omega arith)
   answers (suc n) = by (closest L k n) (answers n)
     where
-      by : (best : Slot) → Answers L k n best → Answers L k (suc n) (closer L k n best)
+      by : (best : Option ℕ) → Answers L k n best → Answers L k (suc n) (closer L k n best)
       by best a =
           by_test (λ b. Answers L k (suc n) (pick_slot b n best)) (both (L.occ n) (both (leb k (L.key n)) (nearer L n best)))
           (λ e.
@@ -202,10 +200,10 @@ module _ (L : Leaf) (k : ℕ) where
           taken_on n best p.0 (leb-true k (L.key n) q.0) q.1 a)
           (λ e. passed n best (λ o c. not_so (nearer L n best) (λ x. differ (sym (rw (o, le-leb k (L.key n) c, x)) ∙ e))) a)
 
-  pub least_at : (s : ℕ) → least_from L k ≡ At s → Least L k L.size s
+  pub least_at : (s : ℕ) → least_from L k ≡ Some s → Least L k L.size s
   unfolding least_from
   least_at s e = rw e at (answers L.size)
 
-  pub least_none : least_from L k ≡ Missing → (t : ℕ) → t < L.size → Taken L t → L.key t < k
+  pub least_none : least_from L k ≡ None → (t : ℕ) → t < L.size → Taken L t → L.key t < k
   unfolding least_from
   least_none e = rw e at (answers L.size)

@@ -1,5 +1,5 @@
 -- One turn of each loop over the slots, and each answer of a test, as a step of the definition that the loop computes.
-use Rattle.std.specs.Prelude.{◌≡◌, Bool, true, false, List, eqb}
+use Rattle.std.specs.Prelude.{◌≡◌, Bool, true, false, List, eqb, Some, None}
 use Rattle.std.proofs.Math.Path.{refl, ap}
 use Rattle.std.proofs.Common.{sym, ◌∙◌, add-one}
 use Prim.Native.Nat.{ℕ, suc, ◌+◌, ◌-◌, ◌*◌, ◌^◌, ◌≤◌, ◌<◌}
@@ -11,7 +11,6 @@ use Rattle.header.specs.Header.{head_at, alt_in, is_locked, is_occupied, fingerp
 use Rattle.leaf.specs.Leaf.{Leaf, leaf_in}
 use Rattle.leaf.proofs.LeafLaws.{occ_in_lem}
 use Rattle.leaf.specs.Search.{pick_slot, lowest, holds_key, slot_of}
-use Rattle.leaf.specs.declared.search.Slot.TheVariants.{At, Missing}
 
 -- ---- what is read of the bytes
 
@@ -67,11 +66,11 @@ module _ (f : ℕ → Bool) (n i : ℕ) where
   unfolding lowest
   lowest_step h = let e : n - i ≡ suc (n - (i + 1)) = omega arith in rw (e, add-one)
 
-  pub lowest_end : n ≤ i → lowest f (n - i) i ≡ Missing
+  pub lowest_end : n ≤ i → lowest f (n - i) i ≡ None
   unfolding lowest
   lowest_end h = let e : n - i ≡ 0 = omega arith in rw e
 
-  pub lowest_found : i < n → f i ≡ true → lowest f (n - i) i ≡ At i
+  pub lowest_found : i < n → f i ≡ true → lowest f (n - i) i ≡ Some i
   lowest_found h e = lowest_step h ∙ rw e
 
   pub lowest_passed : i < n → f i ≡ false → lowest f (n - i) i ≡ lowest f (n - (i + 1)) (i + 1)

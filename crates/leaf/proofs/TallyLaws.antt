@@ -1,5 +1,5 @@
 -- What a caller knows of a tally: no wrong fingerprint and no twin is a right leaf, and what the counts of keys say of each key.
-use Rattle.std.specs.Prelude.{◌≡◌, false, ◌⊎◌, ◌≢◌, leb, eqb}
+use Rattle.std.specs.Prelude.{◌≡◌, false, ◌⊎◌, ◌≢◌, leb, eqb, Option, Some, None}
 use Rattle.std.proofs.Math.Path.{refl, sym, ap}
 use Rattle.std.proofs.Common.{◌∙◌}
 use Rattle.std.proofs.Math.Bool.{true, cond, not}
@@ -16,8 +16,6 @@ use Rattle.leaf.specs.Leaf.{Leaf, Taken, Right}
 use Rattle.leaf.specs.Search.{least_from, key_or0, smallest_of, count}
 use Rattle.leaf.proofs.SearchLaws.{least_at, least_none as no-least}
 use Rattle.leaf.specs.Tally.{wrong_at, at_most, least_to, most_to, shares, twin_at, twins}
-use Rattle.leaf.specs.declared.search.Slot.{Slot}
-use Rattle.leaf.specs.declared.search.Slot.TheVariants.{At, Missing}
 
 module _ (L : Leaf) (inside : (s : ℕ) → Taken L s → s < L.size) where
   prints : count_below (wrong_at L) L.size ≡ 0 → (s : ℕ) → Taken L s → L.fp s ≡ fingerprint_of (L.key s)
@@ -188,10 +186,10 @@ smallest_is L b = go (least_from L 0) refl
     low : ℕ → ℕ
     low x = count_below (at_most L x) L.size
 
-    go : (x : Slot) → least_from L 0 ≡ x → cond (eqb all 0) 0 least ≡ key_or0 L x
-    go Missing e = rw (eq-eqb all 0 (count_zero L.occ L.size (λ s c. not_so (L.occ s) (λ o.
+    go : (x : Option ℕ) → least_from L 0 ≡ x → cond (eqb all 0) 0 least ≡ key_or0 L x
+    go None e = rw (eq-eqb all 0 (count_zero L.occ L.size (λ s c. not_so (L.occ s) (λ o.
         absurd (omega (arith, no-least L 0 e s c o))))))
-    go (At s) e =
+    go (Some s) e =
         let m = least_at L 0 s e in
         let some = ne_eqb all 0 (λ z. differ (sym m.taken ∙ count_none L.occ L.size z s m.below)) in
         let own = ne_eqb (low (L.key s)) 0 (λ z. absurd (omega (arith, none_at_most L (L.key s) L.size z s m.below m.taken))) in

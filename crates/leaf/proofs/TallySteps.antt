@@ -1,5 +1,5 @@
 -- One turn of the pass over the slots, and of the search for twins.
-use Rattle.std.specs.Prelude.{◌≡◌, true, false, cond, not, List, ◌≢◌, ℕ, zero, suc, ◌+◌, ◌*◌, ◌/◌, ◌≤◌, ◌<◌, min, max, eqb, length, set}
+use Rattle.std.specs.Prelude.{◌≡◌, true, false, cond, List, ◌≢◌, ℕ, zero, suc, ◌+◌, ◌-◌, ◌*◌, ◌/◌, ◌≤◌, ◌<◌, eqb, length, set}
 use Rattle.std.proofs.Math.Path.{refl, subst}
 use Rattle.std.proofs.Common.{sym, ap, ◌∙◌, pow_mono, get_or-set_same, get_or-set_other}
 use Rattle.std.proofs.Math.Decide.{ℕ_discrete}
@@ -11,7 +11,6 @@ use Rattle.std.proofs.Math.ListN.{get_or}
 use Rattle.words.specs.Bools.{bit_most, both, both_true, differ, not_so, or_none}
 use Rattle.words.specs.Below.{any_below, count_below}
 use Rattle.words.specs.BelowLaws.{any_make, none_make, count_most}
-use Rattle.header.specs.Header.{fingerprint_of}
 use Rattle.leaf.specs.Leaf.{Leaf, Taken, leaf_in}
 use Rattle.leaf.specs.Search.{count}
 use Rattle.leaf.specs.Tally.{wrong_at, least_to, most_to, shares, twin_at, twins, Tells}
@@ -19,18 +18,6 @@ use Rattle.leaf.specs.declared.tally.Tally.{Tally}
 use Rattle.leaf.specs.TallySteps.{Few, Hits, Stamped, TellsTo, noted, passed}
 
 -- ---- the pass
-
-pub noted_is : (print key hit : ℕ) (t : Tally) (own wrong least most : ℕ) → own ≡ fingerprint_of key
-    → wrong ≡ cond (not (eqb print own)) 1 0 → least ≡ min t.least key → most ≡ max
-    t.most key
-    → ◌≡◌ {A = Tally} (record {
-      entries = t.entries + 1;
-      wrong = t.wrong + wrong;
-      least = least;
-      most = most;
-      hits = 2 * t.hits + hit;
-    }) (noted print key hit t)
-noted_is print key hit t own wrong least most eo ew el em = rw (ew, el, em, eo)
 
 hits_none : (L : Leaf) (n : ℕ) → Hits L n 0 → any_below (twin_at L) n ≡ false
 unfolding any_below
@@ -177,9 +164,9 @@ pub left_next : (L : Leaf) (n h : ℕ) → Left L (suc n) h → twin_at L n ≡ 
 unfolding any_below
 left_next L n h k e = record { told = k.told.1; rest = sym (rw e (or_none (any_below (twin_at L) n))) ∙ k.rest }
 
-pub left_some : (L : Leaf) (n h : ℕ) → Left L n h → (h ≡ 0 → ⊥) → 0 < n
-left_some L zero h k ne = absurd (ne k.told)
-left_some L (suc n) h k ne = omega arith
+-- the last slot and those below it
+pub left_down : (L : Leaf) (s h : ℕ) → 0 < s → Left L s h → Left L (suc (s - 1)) h
+left_down L s h b k = let q : s ≡ suc (s - 1) = omega arith in subst (λ (n : ℕ). Left L n h) q k
 
 pub left_none : (L : Leaf) (n h : ℕ) → h ≡ 0 → Left L n h → false ≡ twins L
 left_none L n h z k = sym (hits_none L n (subst (Hits L n) z k.told)) ∙ k.rest

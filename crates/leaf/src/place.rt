@@ -69,12 +69,10 @@ impl Leaf {
         requires { (3 ≤ s) × (s < 14) }
         ensures { (result ≡ cond (ltb s 7) 6 (cond (ltb s 11) 10 13)) × (s ≤ result) × (result < 14) × (result ≤ s + 3) }
     {
-        if s < 7 {
-            return 6;
+        match s {
+            3..=6 => 6,
+            7..=10 => 10,
+            _ => 13,
         }
-        if s < 11 {
-            return 10;
-        }
-        13
     }
 }

@@ -2,34 +2,23 @@
 // What it must print is worked out by hand from document 01; the file stdout has it.
 #![tactic(auto)]
 
-ghost use Rattle.std.specs.Prelude.{◌≤◌, ◌<◌, ◌≡◌, length};
+ghost use Rattle.std.specs.Prelude.{◌<◌};
 
 use header::{Header, fingerprint_of};
 use leaf::place::Leaf;
-use leaf::search::{Slot, entries, find_slot, lowest_vacant};
+use leaf::search::{entries, find_slot, lowest_vacant};
 use leaf::tally::{has_twins, tally_of};
 use std::io;
+use telling::{end_line, tell};
 
-// A slot as a number: 14 where there is none.
-fn slot_number(slot: Slot) -> u64 {
-    match slot {
-        Slot::At(s) => s as u64,
-        Slot::Missing => 14,
-    }
+// 14 where there is none.
+fn tell_slot(rt: &impl Print, slot: Option<usize>) -> io::Result<()> {
+    tell(rt, slot.unwrap_or(14) as u64)
 }
 
-fn tell(rt: &impl Print, n: u64) -> io::Result<()> {
-    print!(rt; "{n} ")
-}
-
-fn end_line(rt: &impl Print) -> io::Result<()> {
-    println!(rt)
-}
-
-// The entry key, key + 1 in slot s, with the fingerprint told.
-fn enter(leaf: &mut [u8], s: usize, key: u64, print: u8)
-    requires { (256 ≤ length leaf.old) × (s < 14) }
-    ensures { length leaf.new ≡ length leaf.old }
+// The key in slot s, with the fingerprint told.
+fn enter(leaf: &mut [u8; 256], s: usize, key: u64, print: u8)
+    requires { s < 14 }
 {
     let head = Header::read(leaf, 0).mark(s, print);
     words::set_word(leaf, Leaf::key_place(s), key);
@@ -39,73 +28,50 @@ fn enter(leaf: &mut [u8], s: usize, key: u64, print: u8)
 
 // Entries, smallest key (the largest word where there is none), lowest vacant slot, slots with a wrong fingerprint, whether two
 // keys are equal.
-fn tell_leaf(rt: &impl Print, leaf: &[u8]) -> io::Result<()>
-    requires { 256 ≤ length leaf.now }
-{
+fn tell_leaf(rt: &impl Print, leaf: &[u8; 256]) -> io::Result<()> {
     let head = Header::read(leaf, 0);
     let mut stamps = [0u8; 256];
     let t = tally_of(leaf, head, &mut stamps, 1);
     tell(rt, entries(head))?;
     tell(rt, t.least)?;
-    tell(rt, slot_number(lowest_vacant(head)))?;
+    tell_slot(rt, lowest_vacant(head))?;
     tell(rt, t.wrong)?;
-    if has_twins(leaf, head, t.hits) {
-        tell(rt, 1)?;
-    } else {
-        tell(rt, 0)?;
-    }
+    tell(rt, u64::from(has_twins(leaf, head, t.hits)))?;
     end_line(rt)
 }
 
-// Where the key stands.
-fn tell_key(rt: &impl Print, leaf: &[u8], key: u64) -> io::Result<()>
-    requires { 256 ≤ length leaf.now }
-{
-    tell(rt, slot_number(find_slot(leaf, key)))?;
-    end_line(rt)
+// Where each key stands.
+fn tell_keys(rt: &impl Print, leaf: &[u8; 256], keys: &[u64]) -> io::Result<()> {
+    for key in keys {
+        tell_slot(rt, find_slot(leaf, *key))?;
+        end_line(rt)?;
+    }
+    Ok(())
 }
 
 fn empty_leaf(rt: &impl Print) -> io::Result<()> {
     let leaf = [0u8; 256];
     tell_leaf(rt, &leaf)?;
-    tell_key(rt, &leaf, 0)
+    tell_keys(rt, &leaf, &[0])
 }
 
 fn outermost_keys(rt: &impl Print) -> io::Result<()> {
     let mut leaf = [0u8; 256];
     enter(&mut leaf, 3, 0, fingerprint_of(0));
-    enter(
-        &mut leaf,
-        5,
-        18446744073709551615,
-        fingerprint_of(18446744073709551615),
-    );
+    enter(&mut leaf, 5, u64::MAX, fingerprint_of(u64::MAX));
     tell_leaf(rt, &leaf)?;
-    tell_key(rt, &leaf, 0)?;
-    tell_key(rt, &leaf, 1)?;
-    tell_key(rt, &leaf, 18446744073709551615)
+    tell_keys(rt, &leaf, &[0, 1, u64::MAX])
 }
 
-// Slot s gets the key 140 - 10s.
-fn fill(leaf: &mut [u8])
-    requires { 256 ≤ length leaf.old }
-    ensures { length leaf.new ≡ length leaf.old }
-{
-    let mut s: usize = 0;
-    while s < 14 {
-        let key = 140 - 10 * (s as u64);
-        enter(leaf, s, key, fingerprint_of(key));
-        s += 1;
-    }
-}
-
+// Slot s has the key 140 - 10s.
 fn full_leaf(rt: &impl Print) -> io::Result<()> {
     let mut leaf = [0u8; 256];
-    fill(&mut leaf);
+    for s in 0..Leaf::SLOTS {
+        let key = 140 - 10 * (s as u64);
+        enter(&mut leaf, s, key, fingerprint_of(key));
+    }
     tell_leaf(rt, &leaf)?;
-    tell_key(rt, &leaf, 70)?;
-    tell_key(rt, &leaf, 71)?;
-    tell_key(rt, &leaf, 141)
+    tell_keys(rt, &leaf, &[70, 71, 141])
 }
 
 // 1, 256 and 65,536 have the fingerprint 1.
@@ -114,9 +80,7 @@ fn one_fingerprint(rt: &impl Print) -> io::Result<()> {
     enter(&mut leaf, 0, 1, 1);
     enter(&mut leaf, 1, 256, 1);
     tell_leaf(rt, &leaf)?;
-    tell_key(rt, &leaf, 1)?;
-    tell_key(rt, &leaf, 256)?;
-    tell_key(rt, &leaf, 65536)?;
+    tell_keys(rt, &leaf, &[1, 256, 65536])?;
     enter(&mut leaf, 8, 256, 1);
     tell_leaf(rt, &leaf)?;
     enter(&mut leaf, 8, 256, 2);

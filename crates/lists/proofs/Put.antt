@@ -1,5 +1,5 @@
 -- Put, whatever its list is.
-use Rattle.std.specs.Prelude.{ℕ, ◌^◌, ◌≤◌, ◌<◌, false, ◌≡◌, ◌≢◌, length}
+use Rattle.std.specs.Prelude.{ℕ, ◌^◌, ◌≤◌, ◌<◌, false, ◌≡◌, ◌≢◌, length, Some, None}
 use Rattle.std.proofs.Common.{arith, sym, ◌∙◌, subst}
 use Rattle.std.proofs.Math.Decide.{ℕ_discrete}
 use mathlib.Core.List.{List, [], ◌∷◌, ◌++◌, append-nil}
@@ -9,7 +9,6 @@ use Rattle.words.specs.BelowLaws.{count_all}
 use Rattle.leaf.specs.Leaf.{occ_in, view}
 use Rattle.leaf.specs.Search.{lowest_vacant, count}
 use Rattle.leaf.proofs.SearchLaws.{vacant_at, vacant_none}
-use Rattle.leaf.specs.declared.search.Slot.TheVariants.{At, Missing}
 use Rattle.steps.specs.declared.Step.{Step}
 use Rattle.steps.specs.declared.Step.TheVariants.{Store as store, WriteBack as write_back, Fence as fence}
 use Rattle.steps.specs.Model.{Rule, run}
@@ -33,7 +32,7 @@ use Rattle.lists.proofs.FullPut.{parted, split_run, up_served, split_served, put
 -- ---- no slot is found
 
 -- a leaf with no vacant slot is full
-pub none_vacant : (w : ℕ → ℕ) (b : ℕ) → lowest_vacant (occ_in (head_in w b)) 14 ≡ Missing → count (view w b) ≡ 14
+pub none_vacant : (w : ℕ → ℕ) (b : ℕ) → lowest_vacant (occ_in (head_in w b)) 14 ≡ None → count (view w b) ≡ 14
 unfolding count view
 none_vacant w b e = count_all (occ_in (head_in w b)) 14 (vacant_none (occ_in (head_in w b)) 14 e)
 
@@ -54,7 +53,7 @@ run_small N (fence ∷ l) w a small = run_small N l w a.1 small
 module _ (rule : Rule) (L : Lawful rule) (w : ℕ → ℕ) (small : Small w) (N : ℕ) (some : 0 < N) (xs : List ℕ) (b : ℕ) (ys : List ℕ)
     (S : Sound (view w) N (xs ++ (b ∷ ys))) (k v : ℕ) (key : k < 2 ^ 64) (val : v < 2 ^ 64) (target : Target (view w) b ys k)
     (absent : Absent (view w b) k) where
-  found_served : (s : ℕ) → lowest_vacant (occ_in (head_in w b)) 14 ≡ At s
+  found_served : (s : ℕ) → lowest_vacant (occ_in (head_in w b)) 14 ≡ Some s
       → Served rule w N (xs ++ (b ∷ ys)) (put_at (head_in w b) (view w b) b s k v) (put_in k v (list_of (view w) (xs ++ (b ∷ ys)))) per_put
   found_served s e =
       let (l, o, t) = vacant_at (occ_in (head_in w b)) 14 s e in

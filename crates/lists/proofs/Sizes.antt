@@ -1,6 +1,6 @@
 -- How long the lists are: set and del 3 steps, a plain put 5 or at most 14, the split 42, a put at most 56; and their
 -- line writes: 1, 1 or 2, 6, at most 8.
-use Rattle.std.specs.Prelude.{ℕ, suc, ◌+◌, ◌*◌, ◌≤◌, ◌<◌, Bool, cond, ◌≡◌, refl, length}
+use Rattle.std.specs.Prelude.{ℕ, suc, ◌+◌, ◌*◌, ◌≤◌, ◌<◌, Bool, cond, ◌≡◌, refl, length, Option, Some, None}
 use Rattle.std.proofs.Math.Decide.{dec_lt}
 use native.Mathlib.Omega.{arith}
 use Rattle.std.proofs.Math.Bool.{true, false}
@@ -12,8 +12,6 @@ use Rattle.words.specs.Below.{count_below}
 use Rattle.leaf.specs.Leaf.{Leaf, occ_in, view}
 use Rattle.leaf.specs.Search.{lowest_vacant}
 use Rattle.leaf.proofs.SearchLaws.{vacant_at}
-use Rattle.leaf.specs.declared.search.Slot.{Slot}
-use Rattle.leaf.specs.declared.search.Slot.TheVariants.{At, Missing}
 use Rattle.steps.specs.Model.{is_line_write, is_word_write}
 use Rattle.steps.specs.declared.Step.TheVariants.{Store as store}
 use Rattle.steps.specs.Lists.{Each}
@@ -35,9 +33,9 @@ use Rattle.lists.proofs.Parts.{total_append, IsStore, stores_lines, stores_words
 use Rattle.lists.proofs.Beside.{beside_few}
 
 -- by the slot that is found
-pub by_slot_lem : (P : Slot → Type 0) (x : Slot) → ((s : ℕ) → x ≡ At s → P (At s)) → (x ≡ Missing → P Missing) → P x
-by_slot_lem P (At s) f g = f s refl
-by_slot_lem P Missing f g = g refl
+pub by_slot_lem : (P : Option ℕ → Type 0) (x : Option ℕ) → ((s : ℕ) → x ≡ Some s → P (Some s)) → (x ≡ None → P None) → P x
+by_slot_lem P (Some s) f g = f s refl
+by_slot_lem P None f g = g refl
 
 -- ---- set and del
 

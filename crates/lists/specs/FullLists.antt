@@ -1,12 +1,10 @@
 -- The lists of a put into a full leaf, and of put: document 01's section "What each call does", sentence by sentence.
 -- To be believed.
-use Rattle.std.specs.Prelude.{ℕ, suc, ◌+◌, ◌-◌, ◌*◌, Bool, true, false, cond, List, [], ◌∷◌, ◌++◌, ltb, drop, replicate}
+use Rattle.std.specs.Prelude.{ℕ, suc, ◌+◌, ◌-◌, ◌*◌, Bool, true, false, cond, List, [], ◌∷◌, ◌++◌, ltb, drop, replicate, Option, Some, None}
 use Rattle.words.specs.Update.{upd}
 use Rattle.header.specs.Header.{alt_in, marked, flipped, fingerprint_of, cleared_all}
 use Rattle.leaf.specs.Leaf.{Leaf, occ_in, view}
 use Rattle.leaf.specs.Search.{lowest_vacant}
-use Rattle.leaf.specs.declared.search.Slot.{Slot}
-use Rattle.leaf.specs.declared.search.Slot.TheVariants.{At, Missing}
 use Rattle.steps.specs.declared.Step.{Step}
 use Rattle.steps.specs.declared.Step.TheVariants.{Store as store, WriteBack as write_back}
 use Rattle.steps.specs.Lists.{run_all}
@@ -96,9 +94,9 @@ full_put w b c k v = split_list w b c k v ++ put_below (goes_up (view w b) k) w 
 
 -- ---- put: b is the target leaf, c "the lowest block not in the chain"
 
-abbrev pub put_into : Slot → (ℕ → ℕ) → ℕ → ℕ → ℕ → ℕ → List Step
-put_into (At s) w b c k v = put_at (head_in w b) (view w b) b s k v
-put_into Missing w b c k v = full_put w b c k v
+abbrev pub put_into : Option ℕ → (ℕ → ℕ) → ℕ → ℕ → ℕ → ℕ → List Step
+put_into (Some s) w b c k v = put_at (head_in w b) (view w b) b s k v
+put_into None w b c k v = full_put w b c k v
 
 unfoldable pub put_list : (ℕ → ℕ) → ℕ → ℕ → ℕ → ℕ → List Step
 put_list w b c k v = put_into (lowest_vacant (occ_in (head_in w b)) 14) w b c k v

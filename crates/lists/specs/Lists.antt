@@ -3,13 +3,11 @@
 -- An image is its words, `w`. A place is the number of a word: block b has the words from 32b on and the lines from 4b
 -- on. A list is made of sections: `one_store p v` is a store, the write-back of its line and a fence, `one_line t p v`
 -- has the stores t before it, and `two_parts s r t p v` before these the stores s, the write-backs r and a fence.
-use Rattle.std.specs.Prelude.{ℕ, suc, ◌+◌, ◌-◌, ◌*◌, ◌/◌, ◌%◌, ◌^◌, Bool, cond, not, List, [], ◌∷◌, ◌++◌, ltb, eqb}
+use Rattle.std.specs.Prelude.{ℕ, suc, ◌+◌, ◌-◌, ◌*◌, ◌/◌, ◌%◌, ◌^◌, Bool, cond, not, List, [], ◌∷◌, ◌++◌, ltb, eqb, Option, Some, None}
 use Rattle.words.specs.Bools.{both}
 use Rattle.header.specs.Header.{alt_in, marked, cleared, fingerprint_of}
 use Rattle.leaf.specs.Leaf.{Leaf, occ_in, head_of, block, view}
 use Rattle.leaf.specs.Search.{lowest_vacant, count}
-use Rattle.leaf.specs.declared.search.Slot.{Slot}
-use Rattle.leaf.specs.declared.search.Slot.TheVariants.{At, Missing}
 use Rattle.steps.specs.declared.Step.{Step}
 use Rattle.steps.specs.declared.Step.TheVariants.{Store as store, WriteBack as write_back}
 use Rattle.steps.specs.Model.{line}
@@ -120,9 +118,9 @@ unfoldable pub put_at : ℕ → Leaf → ℕ → ℕ → ℕ → ℕ → List St
 put_at h L b s k v = cond (ltb s 3) (near_put h b s k v) (far_put h L b s k v)
 
 -- "Plain put (target not full): take the lowest vacant slot."
-abbrev pub put_found : Slot → ℕ → Leaf → ℕ → ℕ → ℕ → List Step
-put_found (At s) h L b k v = put_at h L b s k v
-put_found Missing h L b k v = []
+abbrev pub put_found : Option ℕ → ℕ → Leaf → ℕ → ℕ → ℕ → List Step
+put_found (Some s) h L b k v = put_at h L b s k v
+put_found None h L b k v = []
 
 unfoldable pub plain_put : ℕ → Leaf → ℕ → ℕ → ℕ → List Step
 plain_put h L b k v = put_found (lowest_vacant (occ_in h) 14) h L b k v

@@ -1,5 +1,5 @@
 -- What a call knows that has passed the refusals 1 and 7: its steps' stores are inside the image, which has z bytes.
-use Rattle.std.specs.Prelude.{ℕ, ◌*◌, ◌/◌, ◌%◌, ◌<◌, ◌≤◌, true, false, not, ◌||◌, List, ◌≡◌, length, ltb, eqb}
+use Rattle.std.specs.Prelude.{ℕ, ◌*◌, ◌/◌, ◌%◌, ◌<◌, true, false, not, ◌||◌, List, ◌≡◌, length, ltb, eqb}
 use Rattle.std.proofs.Common.{arith, ap, ltb-true, ltb-false, le-ltb, eqb-true, eq-eqb, ne_eqb}
 use Rattle.std.proofs.lemmas.Bool.{eqb-false, not-false}
 use Rattle.words.specs.Bools.{or_false}
@@ -13,7 +13,7 @@ use Rattle.steps.specs.Encoding.{in_image, step_at, formed_at}
 use Rattle.steps.proofs.EncodingLaws.{pair_of}
 use Rattle.steps.specs.Refusals.{bad_image}
 use Rattle.machine.specs.Taking.{malformed, bad_list}
-use Rattle.machine.specs.Fits.{AllFit, Fits, Passed, Taken}
+use Rattle.machine.specs.Fits.{Fits, Passed, Taken}
 
 pub passed : (z : ℕ) (list : List ℕ) (n : ℕ) → bad_image z ≡ false → bad_list z list n ≡ false → Passed z list n
 unfolding bad_image bad_list
@@ -43,13 +43,6 @@ passes z list n P = (
       (none_make (malformed z list) n (λ i h. ap not (P.formed i h))),
 )
 
-pub taken_less : (list : List ℕ) (m n : ℕ) → m ≤ n → Taken list n → Taken list m
-taken_less list m n h T = record {
-  few = omega (arith, T.few);
-  long = omega (arith, T.long);
-  lined = λ i p v b e. T.lined i p v (omega arith) e;
-}
-
 -- so each step's store is inside the image, and its line is one of the image
 module _ (z : ℕ) (list : List ℕ) (n : ℕ) (P : Passed z list n) where
   inside : (i : ℕ) → i < n → in_image z (step_at list i) ≡ true
@@ -60,7 +53,7 @@ module _ (z : ℕ) (list : List ℕ) (n : ℕ) (P : Passed z list n) where
   fits_of (write_back k) e = tt
   fits_of fence e = tt
 
-  pub all_fit : AllFit z list n
+  pub all_fit : (i : ℕ) → i < n → Fits z (step_at list i)
   all_fit i h = fits_of (step_at list i) (inside i h)
 
   pub line_inside : EachStore (step_at list) n (λ i p v. line p < z / 64)

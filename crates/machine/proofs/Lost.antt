@@ -9,7 +9,7 @@ use Rattle.std.proofs.Math.Path.{refl}
 use borrow.Author.Tests.{ltb-true, lt-ltb, leb-true, le-leb, eqb-true, eq-eqb, ne_eqb}
 use Rattle.words.specs.Bools.{bit, both_true, same_test, or_true, or_right}
 use Rattle.words.specs.Below.{any_below}
-use Rattle.words.specs.BelowLaws.{any_make, any_at, any_cong, count_nth, count_sub}
+use Rattle.words.specs.BelowLaws.{any_make, any_at, count_nth, count_sub}
 use Rattle.steps.specs.Model.{Steps, line, stores_to, made, arrives, rule01, is_settled, settles_in, settled}
 use Rattle.steps.specs.declared.Step.{Step}
 use Rattle.steps.specs.declared.Step.TheVariants.{Store as store, WriteBack as write_back, Fence as fence}
@@ -23,7 +23,7 @@ use Rattle.machine.specs.Taking.{arrived, outside, bad_arrivals}
 use Rattle.machine.specs.Fits.{Passed}
 use Rattle.machine.proofs.Fits.{line_inside}
 use Rattle.machine.specs.Tables.{Tally, Backs}
-use Rattle.machine.specs.Lost.{above_by, is_above, is_lost, lost, lost_at, lost_by}
+use Rattle.machine.specs.Lost.{is_above, is_lost, lost, lost_at, lost_by}
 
 marked_bit : (b : Bool) → not (eqb (bit b) 0) ≡ b
 marked_bit true = refl
@@ -141,11 +141,3 @@ pub arrivals_judged : (size : ℕ) (list : List ℕ) (n : ℕ) (arrivals : List 
 unfolding bad_arrivals
 arrivals_judged size list n arrivals P e =
     rw (eq-eqb (length arrivals) (size / 64) e, e) (outside_is list n arrivals (size / 64) (line_inside size list n P))
-
--- the pass over the arrivals by the table
-pub above_by_lem : (list : List ℕ) (n : ℕ) (arrivals table : List ℕ) → Tally (step_at list) n table → length arrivals ≤ 1024
-    → 1024 ≤ length table
-    → any_below (above_by table arrivals) (length arrivals) ≡ any_below (is_above list n arrivals) (length arrivals)
-above_by_lem list n arrivals table T few wide =
-    any_cong (above_by table arrivals) (is_above list n arrivals) (length arrivals)
-    (λ l h. ap (λ (c : ℕ). ltb c (arrived arrivals l)) (T l (omega arith)))

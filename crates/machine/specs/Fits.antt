@@ -11,9 +11,6 @@ Fits z (store p v) = 8 * p + 8 ≤ z
 Fits z (write_back k) = Unit {0}
 Fits z fence = Unit {0}
 
-abbrev pub AllFit : ℕ → List ℕ → ℕ → Type 0
-AllFit z list n = (i : ℕ) → i < n → Fits z (step_at list i)
-
 pub record Passed (z : ℕ) (list : List ℕ) (n : ℕ) : Type 0 where
   pub some : 0 < z
   pub small : z ≤ 65536

@@ -1,8 +1,8 @@
 -- Refusal 10 as code finds it: the arrivals above the made stores by one pass over the arrivals, and those below the
 -- settled ones by one over the steps before the last fence, where a store is settled if its line had a write-back.
-use Prim.Native.Nat.{ℕ, ◌≤◌}
+use Prim.Native.Nat.{ℕ}
 use Rattle.std.proofs.Math.Bool.{Bool}
-use Rattle.std.specs.Prelude.{false, not, List, length, get_or, ltb, leb, eqb}
+use Rattle.std.specs.Prelude.{false, not, List, get_or, ltb, leb, eqb}
 use Rattle.words.specs.Bools.{both}
 use Rattle.words.specs.Below.{any_below}
 use Rattle.steps.specs.Model.{Steps, line, made}
@@ -11,8 +11,6 @@ use Rattle.steps.specs.declared.Step.TheVariants.{Store as store, WriteBack as w
 use Rattle.steps.specs.LastFence.{last_fence, had_back}
 use Rattle.steps.specs.Encoding.{step_at}
 use Rattle.machine.specs.Taking.{arrived}
-use Rattle.machine.specs.Fits.{Taken}
-use Rattle.machine.specs.Tables.{Zero}
 
 -- more stores of the line arrived than were made
 abbrev pub is_above : List ℕ → ℕ → List ℕ → ℕ → Bool
@@ -31,17 +29,8 @@ unfoldable pub lost : List ℕ → ℕ → List ℕ → Bool
 lost list n arrivals = any_below (lost_at list (last_fence (step_at list) n) arrivals) (last_fence (step_at list) n)
 
 -- the same by the tables
-abbrev pub above_by : List ℕ → List ℕ → ℕ → Bool
-above_by table arrivals l = ltb (get_or table l 0) (arrived arrivals l)
-
 abbrev pub lost_by : List ℕ → List ℕ → List ℕ → Step → Bool
 lost_by backs seen arrivals (store p v) =
     both (not (eqb (get_or backs (line p) 0) 0)) (leb (arrived arrivals (line p)) (get_or seen (line p) 0))
 lost_by backs seen arrivals (write_back k) = false
 lost_by backs seen arrivals fence = false
-
--- a fresh table for the first n steps of a list
-pub record Ready (table list : List ℕ) (n : ℕ) : Type 0 where
-  pub taken : Taken list n
-  pub zero : Zero table
-  pub wide : 1024 ≤ length table

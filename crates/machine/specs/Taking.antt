@@ -1,19 +1,16 @@
 -- What run and cut answer and what they leave of the image, for all inputs. To be believed: this is their whole contract.
-use Rattle.std.specs.Prelude.{ℕ, ◌*◌, ◌/◌, Bool, not, cond, ◌||◌, List, [], ◌∷◌, length, get_or, ltb, eqb}
+use Rattle.std.specs.Prelude.{ℕ, Result, Ok, Err, ◌*◌, ◌/◌, Bool, not, cond, ◌||◌, List, [], ◌∷◌, length, get_or, ltb, eqb}
 pub use Rattle.words.specs.Words.{store_word}
 use Rattle.words.specs.Below.{any_below}
 use Rattle.steps.specs.Model.{line, made, run, cut, rule01, settled}
 use Rattle.steps.specs.Encoding.{step_at, formed_at}
-use Rattle.steps.specs.Refusals.{answer, bad_image}
-use Rattle.machine.specs.declared.Ran.{Ran}
-use Rattle.machine.specs.declared.Ran.TheVariants.{Done, BadImage, BadList, BadArrivals}
+use Rattle.steps.specs.declared.refusal.Refusal.{Refusal}
+use Rattle.steps.specs.Refusals.{answer, bad_image, number_of}
 
 -- "When an answer is an enum, a definition gives this paper's number (..) for each of its cases."
-abbrev pub ran_as : Ran → ℕ
-ran_as Done = 0
-ran_as BadImage = 1
-ran_as BadList = 7
-ran_as BadArrivals = 10
+abbrev pub ran_as : Result Unit Refusal → ℕ
+ran_as (Ok _) = 0
+ran_as (Err r) = number_of r
 
 -- "given for each line how many of its stores in the first n steps arrived"
 abbrev pub arrived : List ℕ → ℕ → ℕ

@@ -4,38 +4,34 @@ ghost use Rattle.steps.specs.Encoding.{first, second, in_image, decode, well_for
 
 use steps::Step;
 
+// "A write-back has 2^32 plus the number of a line (..), and 0; a fence has 2^33 and 0."
+const WRITE_BACK: u64 = 4294967296;
+
+const FENCE: u64 = 8589934592;
+
 // The step of two words, which for a malformed pair means nothing.
+#[tactic(auto, unfolding(steps::specs::Encoding::decode))]
 pub fn step_of(a: u64, b: u64) -> Step
     ensures { result ≡ decode a b }
 {
-    if a < 4294967296 {
+    if a < WRITE_BACK {
         return Step::Store(a / 8, b);
     }
-    if a < 8589934592 {
-        return Step::WriteBack(a - 4294967296);
+    if a < FENCE {
+        return Step::WriteBack(a - WRITE_BACK);
     }
     Step::Fence
 }
 
 // The two words of a step. The first has to fit.
-pub fn first_word(step: Step) -> u64
+pub fn words_of(step: Step) -> (u64, u64)
     requires { first step < 2 ^ 64 }
-    ensures { result ≡ first step }
+    ensures { (result.0 ≡ first step) × (result.1 ≡ second step) }
 {
     match step {
-        Step::Store(p, _) => 8 * p,
-        Step::WriteBack(k) => 4294967296 + k,
-        Step::Fence => 8589934592,
-    }
-}
-
-pub fn second_word(step: Step) -> u64
-    ensures { result ≡ second step }
-{
-    match step {
-        Step::Store(_, v) => v,
-        Step::WriteBack(_) => 0,
-        Step::Fence => 0,
+        Step::Store(p, v) => (8 * p, v),
+        Step::WriteBack(k) => (WRITE_BACK + k, 0),
+        Step::Fence => (FENCE, 0),
     }
 }
 
@@ -52,16 +48,12 @@ pub fn in_image(size: u64, step: Step) -> bool
 }
 
 // Are the two words those of a step of the image?
+#[tactic(auto, using(steps::proofs::EncodingLaws::first_small))]
 pub fn well_formed(size: u64, a: u64, b: u64) -> bool
     ensures { result ≡ well_formed size a b }
 {
     let step = step_of(a, b);
-    if in_image(size, step) {
-        if first_word(step) == a {
-            return second_word(step) == b;
-        }
-    }
-    false
+    in_image(size, step) && words_of(step) == (a, b)
 }
 
 // Step i of a list.
@@ -84,6 +76,5 @@ pub fn put_step(list: &mut [u64], i: usize, step: Step)
     requires { (2 * i + 2 ≤ length list.old) × (first step < 2 ^ 64) }
     ensures { list.new ≡ put_step list.old i step }
 {
-    list[2 * i] = first_word(step);
-    list[2 * i + 1] = second_word(step);
+    (list[2 * i], list[2 * i + 1]) = words_of(step);
 }

@@ -3,29 +3,20 @@
 // call, and its bytes 0, 8 and 64 follow.
 #![tactic(auto)]
 
-use machine::Ran;
 use std::io;
-use words::wide;
+use steps::Refusal;
 
 const BACK: u64 = 4294967296;
 
 const FENCE: u64 = 8589934592;
 
-fn space(rt: &impl Print, value: u64) -> io::Result<()> {
-    print!(rt; " {value}")
+fn answer(rt: &impl Print, case: u64, ran: Result<(), Refusal>) -> io::Result<()> {
+    print!(rt; "{case} {}", machine::ran_as(ran))
 }
 
-fn answer(rt: &impl Print, case: u64, ran: Ran) -> io::Result<()> {
-    print!(rt; "{case}")?;
-    space(rt, machine::ran_as(ran))
-}
-
-fn show(rt: &impl Print, case: u64, ran: Ran, image: &[u8; 256]) -> io::Result<()> {
+fn show(rt: &impl Print, case: u64, ran: Result<(), Refusal>, image: &[u8; 256]) -> io::Result<()> {
     answer(rt, case, ran)?;
-    space(rt, wide(image[0]))?;
-    space(rt, wide(image[8]))?;
-    space(rt, wide(image[64]))?;
-    println!(rt)
+    println!(rt; " {} {} {}", image[0], image[8], image[64])
 }
 
 // Lines 0 and 1 have so many arrivals, lines 2 and 3 none.

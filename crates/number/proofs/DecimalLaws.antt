@@ -1,5 +1,5 @@
 -- Numbers: a field is read as n exactly when it is n's decimal spelling and n is below 2^64.
-use Rattle.std.specs.Prelude.{◌≡◌, refl, Bool, true, false, cond, ◌≢◌, List, [], ◌∷◌, ◌++◌, ℕ, zero, suc, ◌+◌, ◌-◌, ◌*◌, ◌/◌, ◌%◌, ◌^◌, ◌≤◌, ◌<◌, eqb, ltb, length}
+use Rattle.std.specs.Prelude.{◌≡◌, refl, Bool, true, false, cond, ◌≢◌, List, [], ◌∷◌, ◌++◌, ℕ, zero, suc, ◌+◌, ◌-◌, ◌*◌, ◌/◌, ◌%◌, ◌^◌, ◌≤◌, ◌<◌, eqb, ltb, length, Option, Some, None}
 use Rattle.std.proofs.Common.{ap, sym, ◌∙◌, append-nil, not-suc-le-zero, arith, lt-ltb, le-ltb, ne_eqb, ltb-false, length-append}
 use Rattle.std.proofs.Math.Decide.{dec_lt}
 use Rattle.std.proofs.lemmas.Bool.{eqb-false}
@@ -8,8 +8,7 @@ use Rattle.words.specs.Bools.{never}
 use Rattle.number.specs.Decimal.{digits, decimal}
 use Rattle.number.specs.Reading.{byte_zero, byte_nine, digit_of, closed, most, grown, grown_by}
 use Rattle.number.specs.Reading.{pushed, pushed_all, spelled_by}
-use Rattle.number.specs.declared.Number.{Number}
-use Rattle.number.specs.declared.Number.TheVariants.{Is, Not}
+use Rattle.number.proofs.ReadingLaws.{pushed_none}
 
 -- ---- the two equations of decimal
 
@@ -63,15 +62,15 @@ decimal_some =
 
 -- ---- a spelled number is read
 
-digit_is : (d : ℕ) → d < 10 → digit_of (48 + d) ≡ Is d
+digit_is : (d : ℕ) → d < 10 → digit_of (48 + d) ≡ Some d
 digit_is d h =
     let e : 48 + d - byte_zero ≡ d = omega arith in
     rw (le-ltb (48 + d) byte_zero (omega arith), le-ltb byte_nine (48 + d) (omega arith), e)
 
-grown_is : (n d : ℕ) → n ≢ closed → n * 10 + d < 2 ^ 64 → grown n d ≡ Is (n * 10 + d)
+grown_is : (n d : ℕ) → n ≢ closed → n * 10 + d < 2 ^ 64 → grown n d ≡ Some (n * 10 + d)
 grown_is n d ne h = rw (ne_eqb n closed ne, le-ltb most (n * 10 + d) (omega arith))
 
-pushed_snoc : (n : Number) (l : List ℕ) (b : ℕ) → pushed_all n (l ++ b ∷ []) ≡ pushed (pushed_all n l) b
+pushed_snoc : (n : Option ℕ) (l : List ℕ) (b : ℕ) → pushed_all n (l ++ b ∷ []) ≡ pushed (pushed_all n l) b
 unfolding pushed_all
 pushed_snoc n [] b = refl
 pushed_snoc n (x ∷ l) b = pushed_snoc (pushed n x) l b
@@ -80,83 +79,78 @@ number_snoc : (l : List ℕ) (b : ℕ) → 0 < length l → spelled_by (l ++ b �
 number_snoc [] b h = absurd (not-suc-le-zero h)
 number_snoc (x ∷ l) b h = pushed_snoc (digit_of x) l b
 
-pub number_decimal : (n : ℕ) → n < 2 ^ 64 → spelled_by (decimal n) ≡ Is n
+pub number_decimal : (n : ℕ) → n < 2 ^ 64 → spelled_by (decimal n) ≡ Some n
 unfolding pushed_all
 number_decimal =
-    by_digits (λ n. n < 2 ^ 64 → spelled_by (decimal n) ≡ Is n) (λ n h lt. rw (decimal_small n h) (digit_is n h)) more
+    by_digits (λ n. n < 2 ^ 64 → spelled_by (decimal n) ≡ Some n) (λ n h lt. rw (decimal_small n h) (digit_is n h)) more
   where
-    more : (n : ℕ) → 10 ≤ n → (n / 10 < 2 ^ 64 → spelled_by (decimal (n / 10)) ≡ Is (n / 10)) → n < 2 ^ 64
-        → spelled_by (decimal n) ≡ Is n
+    more : (n : ℕ) → 10 ≤ n → (n / 10 < 2 ^ 64 → spelled_by (decimal (n / 10)) ≡ Some (n / 10)) → n < 2 ^ 64
+        → spelled_by (decimal n) ≡ Some n
     more n h ih lt =
         let e : n / 10 * 10 + n % 10 ≡ n = omega arith in
         ap spelled_by (decimal_more n h) ∙ number_snoc (decimal (n / 10)) (48 + n % 10) (decimal_some (n / 10))
-        ∙ ap (λ (m : Number). pushed m (48 + n % 10)) (ih (omega arith))
+        ∙ ap (λ (m : Option ℕ). pushed m (48 + n % 10)) (ih (omega arith))
         ∙ ap (grown_by (n / 10)) (digit_is (n % 10) (omega arith))
-        ∙ grown_is (n / 10) (n % 10) (omega arith) (omega arith) ∙ ap Is e
+        ∙ grown_is (n / 10) (n % 10) (omega arith) (omega arith) ∙ ap Some e
 
 -- ---- what is read is spelled so
 
-digit_read : (b d : ℕ) → digit_of b ≡ Is d → (b ≡ 48 + d) × (d < 10)
+digit_read : (b d : ℕ) → digit_of b ≡ Some d → (b ≡ 48 + d) × (d < 10)
 digit_read b d = go (ltb b byte_zero) (ltb byte_nine b) refl refl
   where
     go : (s t : Bool) → ltb b byte_zero ≡ s → ltb byte_nine b ≡ t
-        → cond s Not (cond t Not (Is (b - byte_zero))) ≡ Is d → (b ≡ 48 + d) × (d < 10)
+        → cond s None (cond t None (Some (b - byte_zero))) ≡ Some d → (b ≡ 48 + d) × (d < 10)
     go true t es et e = never cc
     go false true es et e = never cc
     go false false es et e =
         let z : b - byte_zero ≡ d = cc in
         omega (arith, ltb-false b byte_zero es, ltb-false byte_nine b et)
 
-grown_read : (n d m : ℕ) → grown n d ≡ Is m → (n ≢ closed) × (m ≡ n * 10 + d) × (m < 2 ^ 64)
+grown_read : (n d m : ℕ) → grown n d ≡ Some m → (n ≢ closed) × (m ≡ n * 10 + d) × (m < 2 ^ 64)
 grown_read n d m = go (eqb n closed) (ltb most (n * 10 + d)) refl refl
   where
     go : (s t : Bool) → eqb n closed ≡ s → ltb most (n * 10 + d) ≡ t
-        → cond s Not (cond t Not (Is (n * 10 + d))) ≡ Is m → (n ≢ closed) × (m ≡ n * 10 + d) × (m < 2 ^ 64)
+        → cond s None (cond t None (Some (n * 10 + d))) ≡ Some m → (n ≢ closed) × (m ≡ n * 10 + d) × (m < 2 ^ 64)
     go true t es et e = never cc
     go false true es et e = never cc
     go false false es et e =
         let z : n * 10 + d ≡ m = cc in
         (eqb-false n closed es, sym z, omega (arith, ltb-false most (n * 10 + d) et))
 
-pushed_read : (n b m : ℕ) → pushed (Is n) b ≡ Is m → (decimal n ++ b ∷ [] ≡ decimal m) × (m < 2 ^ 64)
+pushed_read : (n b m : ℕ) → pushed (Some n) b ≡ Some m → (decimal n ++ b ∷ [] ≡ decimal m) × (m < 2 ^ 64)
 pushed_read n b m = go (digit_of b) refl
   where
-    go : (r : Number) → digit_of b ≡ r → grown_by n r ≡ Is m → (decimal n ++ b ∷ [] ≡ decimal m) × (m < 2 ^ 64)
-    go Not er e = never cc
-    go (Is d) er e =
+    go : (r : Option ℕ) → digit_of b ≡ r → grown_by n r ≡ Some m → (decimal n ++ b ∷ [] ≡ decimal m) × (m < 2 ^ 64)
+    go None er e = never cc
+    go (Some d) er e =
         let g = grown_read n d m e in
         let f = digit_read b d er in
         let tens : m / 10 ≡ n = omega arith in
         let units : 48 + m % 10 ≡ b = omega arith in
         (sym (decimal_more m (omega arith) ∙ rw (tens, units)), g.2)
 
-pushed_not : (l : List ℕ) (n : ℕ) → pushed_all Not l ≡ Is n → ⊥
-unfolding pushed_all
-pushed_not [] n e = never cc
-pushed_not (b ∷ l) n e = pushed_not l n e
-
-pushed_all_read : (l : List ℕ) (m n : ℕ) → m < 2 ^ 64 → pushed_all (Is m) l ≡ Is n
+pushed_all_read : (l : List ℕ) (m n : ℕ) → m < 2 ^ 64 → pushed_all (Some m) l ≡ Some n
     → (decimal m ++ l ≡ decimal n) × (n < 2 ^ 64)
 unfolding pushed_all
 pushed_all_read [] m n h e = let z : m ≡ n = cc in (append-nil (decimal m) ∙ ap decimal z, omega arith)
-pushed_all_read (b ∷ l) m n h e = go (pushed (Is m) b) refl e (λ k. pushed_all_read l k n)
+pushed_all_read (b ∷ l) m n h e = go (pushed (Some m) b) refl e (λ k. pushed_all_read l k n)
   where
-    go : (r : Number) → pushed (Is m) b ≡ r → pushed_all r l ≡ Is n
-        → ((k : ℕ) → k < 2 ^ 64 → pushed_all (Is k) l ≡ Is n → (decimal k ++ l ≡ decimal n) × (n < 2 ^ 64))
+    go : (r : Option ℕ) → pushed (Some m) b ≡ r → pushed_all r l ≡ Some n
+        → ((k : ℕ) → k < 2 ^ 64 → pushed_all (Some k) l ≡ Some n → (decimal k ++ l ≡ decimal n) × (n < 2 ^ 64))
         → (decimal m ++ b ∷ l ≡ decimal n) × (n < 2 ^ 64)
-    go Not er e ih = absurd (pushed_not l n e)
-    go (Is k) er e ih =
+    go None er e ih = let z = pushed_none l in never cc
+    go (Some k) er e ih =
         let p = pushed_read m b k er in
         let q = ih k p.1 e in
         (sym (append_snoc (decimal m) b l) ∙ ap (λ (x : List ℕ). x ++ l) p.0 ∙ q.0, q.1)
 
-pub number_read : (l : List ℕ) (n : ℕ) → spelled_by l ≡ Is n → (l ≡ decimal n) × (n < 2 ^ 64)
+pub number_read : (l : List ℕ) (n : ℕ) → spelled_by l ≡ Some n → (l ≡ decimal n) × (n < 2 ^ 64)
 number_read [] n e = never cc
 number_read (b ∷ l) n e = go (digit_of b) refl e
   where
-    go : (r : Number) → digit_of b ≡ r → pushed_all r l ≡ Is n → (b ∷ l ≡ decimal n) × (n < 2 ^ 64)
-    go Not er e = absurd (pushed_not l n e)
-    go (Is d) er e =
+    go : (r : Option ℕ) → digit_of b ≡ r → pushed_all r l ≡ Some n → (b ∷ l ≡ decimal n) × (n < 2 ^ 64)
+    go None er e = let z = pushed_none l in never cc
+    go (Some d) er e =
         let f = digit_read b d er in
         let q = pushed_all_read l d n (omega arith) e in
         (ap (λ (x : List ℕ). x ++ l) (ap (λ (x : ℕ). x ∷ []) f.0 ∙ sym (decimal_small d f.1)) ∙ q.0, q.1)

@@ -1,72 +1,44 @@
 // A field read as a number: decimal, with no sign and no leading zero but 0 itself, at most 2^64 - 1.
 #![tactic(auto)]
 
-ghost use Rattle.std.specs.Prelude.{◌≡◌};
+ghost use Rattle.std.specs.Prelude.{◌≡◌, Some};
 ghost use Rattle.number.specs.Reading.{digit_of, grown, pushed, spelled_by};
 
-use words::{LARGEST, wide};
-
-// The number that bytes spell, or that they spell none.
-#[derive(Clone, Copy)]
-pub enum Number {
-    Is(u64),
-    Not,
-}
-
-fn digit(byte: u8) -> Number
+fn digit(byte: u8) -> Option<u64>
     ensures { result ≡ digit_of byte }
 {
-    if byte < b'0' {
-        return Number::Not;
+    match byte {
+        b'0'..=b'9' => Some(u64::from(byte - b'0')),
+        _ => None,
     }
-    if b'9' < byte {
-        return Number::Not;
-    }
-    Number::Is(wide(byte) - 48)
 }
 
-// `n` with a digit behind it. A 0 takes none: no leading zero. The last number whose tenfold fits is 1844674407370955161.
-fn grow(n: u64, digit: u64) -> Number
+// `n` with a digit behind it. A 0 takes none: no leading zero.
+fn grow(n: u64, digit: u64) -> Option<u64>
     ensures { result ≡ grown n digit }
 {
     if n == 0 {
-        return Number::Not;
+        return None;
     }
-    if 1844674407370955161 < n {
-        return Number::Not;
-    }
-    let tens = n * 10;
-    if LARGEST - tens < digit {
-        return Number::Not;
-    }
-    Number::Is(tens + digit)
+    n.checked_mul(10)?.checked_add(digit)
 }
 
-// What is read so far with one more byte of the field.
-fn push(head: Number, byte: u8) -> Number
-    ensures { result ≡ pushed head byte }
+// The number read so far with one more byte of the field.
+fn push(n: u64, byte: u8) -> Option<u64>
+    ensures { result ≡ pushed (Some n) byte }
 {
-    match head {
-        Number::Is(n) => match digit(byte) {
-            Number::Is(d) => grow(n, d),
-            Number::Not => Number::Not,
-        },
-        Number::Not => Number::Not,
-    }
+    grow(n, digit(byte)?)
 }
 
 // The number that a whole field spells.
-pub fn spelled_by(field: &[u8]) -> Number
+#[tactic(auto, using(crate::proofs::ReadingLaws::reading))]
+pub fn spelled_by(field: &[u8]) -> Option<u64>
     ensures { result ≡ spelled_by field.now }
 {
-    if field.len() == 0 {
-        return Number::Not;
+    let (first, rest) = field.split_first()?;
+    let mut n = digit(*first)?;
+    for byte in rest {
+        n = push(n, *byte)?;
     }
-    let mut n = digit(field[0]);
-    let mut i = 1;
-    while i < field.len() {
-        n = push(n, field[i]);
-        i += 1;
-    }
-    n
+    Some(n)
 }

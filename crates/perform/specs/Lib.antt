@@ -1,5 +1,4 @@
 -- To believe: Perform. Printing has the shape of the code that writes.
 pub mod Perform
 pub mod Printing
-pub mod PerformLaws
 pub mod ListLaws

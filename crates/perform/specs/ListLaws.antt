@@ -1,7 +1,8 @@
 -- A list prints every entry: 4 blocks hold at most 56, which is the room that listing is lent.
-use Rattle.std.specs.Prelude.{◌≡◌, refl, Bool, ℕ, zero, suc, ◌*◌, ◌≤◌, eqb, length, get_or, take, replicate}
+use Rattle.std.specs.Prelude.{◌≡◌, refl, Bool, ℕ, zero, suc, ◌*◌, ◌≤◌, ◌<◌, eqb, length, get_or, take, replicate}
 use Rattle.std.proofs.Math.Path.{ap}
-use Rattle.std.proofs.Common.{◌∙◌, arith, le-leb, length-append, take_all}
+use Rattle.std.proofs.Common.{◌∙◌, arith, le-leb, length-append, length-take-le, take_all}
+use Rattle.std.proofs.lemmas.List.{get_or-take}
 use Rattle.std.proofs.Math.Bool.{true, false, cond}
 use mathlib.Core.List.{List, [], ◌∷◌, ◌++◌, map}
 use Rattle.std.proofs.Math.ListN.{length-take}
@@ -70,6 +71,13 @@ unfolding rows_to
 rows_of [] ks vs = refl
 rows_of (e ∷ es) ks vs = rows_cons (length es) e.key e.val _ _ ∙ ap (λ (x : List (List ℕ)). row e ∷ x) (rows_of es ks vs)
 
+rows_taken : (m n : ℕ) (ks vs : List ℕ) → m ≤ n → rows_to m (take n ks) (take n vs) ≡ rows_to m ks vs
+unfolding rows_to
+rows_taken zero n ks vs h = refl
+rows_taken (suc m) n ks vs h =
+    let lt : m < n = omega arith in
+    rw (rows_taken m n ks vs (omega arith), get_or-take n ks m 0 lt, get_or-take n vs m 0 lt)
+
 -- ---- what a listing tells is what a list prints
 
 abbrev lent : List ℕ
@@ -85,9 +93,9 @@ module _ (l : List ℕ) (t : Counted) (keys values : List ℕ) (told : listing_i
       cond fine (listing_is (counted n (length es)) (over (map (λ e. e.key) es) lent) (over (map (λ e. e.val) es) lent))
       (listing_is (counted n 0) lent lent)
 
-  pub list_rows : length l ≡ 1024 → rows_to t.count keys values ≡ rows l
+  told_rows : length l ≡ 1024 → rows_to t.count keys values ≡ rows l
   unfolding listing_of rows_to es
-  list_rows long = go (eqb (answer (listing_table l)) 0) told
+  told_rows long = go (eqb (answer (listing_table l)) 0) told
     where
       go : (fine : Bool) → listing_is t keys values ≡ made fine → rows_to t.count keys values ≡ cond fine (map row (entries_in l)) []
       go true e = (λ i. rows_to (e i).told.count (e i).keys (e i).values) ∙ rows_of es _ _ ∙ ap (map row) (all_listed l long)
@@ -101,3 +109,9 @@ module _ (l : List ℕ) (t : Counted) (keys values : List ℕ) (told : listing_i
       go : (fine : Bool) → listing_is t keys values ≡ made fine → t.count ≤ 56
       go true e = omega (arith, ap (λ (x : Listing). x.told.count) e, length-take 56 (starting_at 0 (entries_in l)))
       go false e = omega (arith, ap (λ (x : Listing). x.told.count) e)
+
+  pub list_rows : length l ≡ 1024 → t.count ≤ length keys
+      → rows_to (length (take t.count keys)) (take t.count keys) (take t.count values) ≡ rows l
+  list_rows long few =
+      ap (λ (n : ℕ). rows_to n (take t.count keys) (take t.count values)) (length-take-le t.count keys few)
+      ∙ rows_taken t.count t.count keys values (omega arith) ∙ told_rows long

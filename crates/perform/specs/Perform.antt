@@ -1,9 +1,9 @@
 -- Document 01, "The bench program": what each command does to the image, and the lines that it prints. To be believed.
-use Rattle.std.specs.Prelude.{◌≡◌, Bool, cond, List, [], ◌∷◌, ◌++◌, map, ℕ, eqb, ltb, length, drop, replicate}
+use Rattle.std.specs.Prelude.{◌≡◌, Bool, cond, List, [], ◌∷◌, ◌++◌, map, ℕ, eqb, ltb, length, drop, replicate, Option, Some, None}
 use Rattle.number.specs.Decimal.{decimal}
 use Rattle.command.specs.Spelling.{parted}
 use Rattle.command.specs.declared.Command.{Command}
-use Rattle.command.specs.declared.Command.TheVariants.{Put, Set, Del, Get, List as Listing, Malformed}
+use Rattle.command.specs.declared.Command.TheVariants.{Put, Set, Del, Get, List as Listing}
 use Rattle.steps.specs.Refusals.{answer}
 use Rattle.machine.specs.Taking.{run_of}
 use Rattle.image.specs.Map.{Entry}
@@ -64,11 +64,11 @@ rows image = cond (eqb (answer (listing_table image)) 0) (map row (entries_in im
 abbrev pub refused : ℕ → List (List ℕ)
 refused n = (n ∷ 0 ∷ 0 ∷ 0 ∷ []) ∷ []
 
--- 9: "bench program: line malformed"
-unfoldable pub performed : Command → List ℕ → Performed
-performed (Put k v) image = taken image (put_of image room k v)
-performed (Set k v) image = taken image (set_of image room k v)
-performed (Del k) image = taken image (del_of image room k)
-performed (Get k) image = performing image (got (find_of image k))
-performed Listing image = performing image (rows image)
-performed Malformed image = performing image (refused 9)
+-- 9: "bench program: line malformed", for a line that spells no command
+unfoldable pub performed : Option Command → List ℕ → Performed
+performed (Some (Put k v)) image = taken image (put_of image room k v)
+performed (Some (Set k v)) image = taken image (set_of image room k v)
+performed (Some (Del k)) image = taken image (del_of image room k)
+performed (Some (Get k)) image = performing image (got (find_of image k))
+performed (Some Listing) image = performing image (rows image)
+performed None image = performing image (refused 9)

@@ -1,11 +1,13 @@
 -- What each function that writes leaves and tells, and the room that it needs: bytes stored one behind the other.
-use Rattle.std.specs.Prelude.{◌≡◌, List, [], ◌∷◌, ◌++◌, ℕ, zero, suc, ◌+◌, ◌/◌, ◌%◌, ◌^◌, ◌≤◌, ◌<◌, length, take, drop, set, get_or}
-use Rattle.std.proofs.Common.{ap, ap₂, sym, ◌∙◌, subst, append_assoc, append-nil, add-zero, add-suc, suc-add, pow-suc, div-lt_iff_lt-mul, arith, length-append, length-take-le}
+use Rattle.std.specs.Prelude.{◌≡◌, List, [], ◌∷◌, ◌++◌, map, ℕ, zero, suc, ◌+◌, ◌/◌, ◌%◌, ◌^◌, ◌≤◌, ◌<◌, length, take, drop, set, get_or}
+use Rattle.std.proofs.Common.{ap, ap₂, not-suc-le-zero, ◌-◌, sym, ◌∙◌, subst, append_assoc, append-nil, add-zero, add-suc, suc-add, pow-suc, div-lt_iff_lt-mul, arith, length-append, length-take-le, take_all}
 use Rattle.std.proofs.Math.Decide.{dec_lt}
+use Rattle.std.proofs.lemmas.List.{take_more, set-set}
 use Rattle.std.proofs.lemmas.List.Edits.{sets, sets-eq}
 use Rattle.std.proofs.Math.Seq.{length-sets}
 use Rattle.number.specs.Decimal.{decimal}
 use Rattle.number.proofs.DecimalLaws.{decimal_small, decimal_more}
+use Rattle.command.specs.Spelling.{parted}
 use Rattle.perform.specs.Perform.{line_of, text_of, Written}
 
 -- new is old with bytes stored from a place on, and next the place behind them
@@ -64,37 +66,78 @@ short (suc k) n h =
 pub decimal_short : (n : ℕ) → n < 2 ^ 64 → length (decimal n) ≤ 20
 decimal_short n h = short 19 n (omega arith)
 
-pub marked_short : (n mark : ℕ) → n < 2 ^ 64 → length (marked n mark) ≤ 21
-marked_short n mark h = omega (arith, length-append (decimal n) (mark ∷ []), decimal_short n h)
-
-pub pair_short : (a b mark : ℕ) → a < 2 ^ 64 → b < 2 ^ 64 → length (marked a 9 ++ marked b mark) ≤ 42
-pair_short a b mark ha hb =
-    omega (arith, length-append (marked a 9) (marked b mark), marked_short a 9 ha, marked_short b mark hb)
-
--- bytes stored from the start on that are a line
-pub line_written : (l xs line m : List ℕ) (p : ℕ) → xs ≡ line → Stored l 0 xs m p → p ≤ length l
-    → Written l line m p × Counts p m
-line_written l xs line m p e s room =
-    let n : p ≡ length line = omega (arith, ap length e) in
-    let same : m ≡ line ++ drop p l =
-    s.1 ∙ ap (sets l 0) e ∙ sets-eq line l 0 (omega arith) ∙ ap (λ (k : ℕ). line ++ drop k l) (start n) in
+-- bytes stored from the start on, where they fit
+pub stored_written : (l xs m : List ℕ) (p : ℕ) → Stored l 0 xs m p → p ≤ length l → Written l xs m p × Counts p m
+stored_written l xs m p s room =
+    let n : p ≡ length xs = omega (arith, s.0) in
+    let same : m ≡ xs ++ drop p l = s.1 ∙ sets-eq xs l 0 (omega arith) ∙ ap (λ (k : ℕ). xs ++ drop k l) (start n) in
     let long : length m ≡ length l = ap length s.1 ∙ length-sets l 0 xs in
     ((n, same), (omega arith, sym (length-take-le p m (omega arith))))
   where
-    start : p ≡ length line → 0 + length line ≡ p
+    start : p ≡ length xs → 0 + length xs ≡ p
     start n = omega arith
 
-pub pair_is_line : (a b : ℕ) → marked a 9 ++ marked b 10 ≡ line_of (a ∷ b ∷ [])
-pair_is_line a b = simp append_assoc
+-- a tab behind each number, ..
+unfoldable pub fields : List ℕ → List ℕ
+fields [] = []
+fields (n ∷ ns) = marked n 9 ++ fields ns
 
-pub pairs_are_line : (a b c d : ℕ)
-    → (marked a 9 ++ marked b 9) ++ (marked c 9 ++ marked d 10) ≡ line_of (a ∷ b ∷ c ∷ d ∷ [])
-pairs_are_line a b c d = simp append_assoc
+fields_push : (ns : List ℕ) (n : ℕ) → fields (ns ++ n ∷ []) ≡ fields ns ++ marked n 9
+unfolding fields
+fields_push [] n = append-nil (marked n 9)
+fields_push (m ∷ ns) n = ap (λ (x : List ℕ). marked m 9 ++ x) (fields_push ns n) ∙ sym (append_assoc (marked m 9) (fields ns) (marked n 9))
+
+fields_parted : (n : ℕ) (ns : List ℕ) → fields (n ∷ ns) ≡ parted (map decimal (n ∷ ns)) ++ 9 ∷ []
+unfolding fields
+fields_parted n [] = append-nil (marked n 9)
+fields_parted n (m ∷ ns) = ap (λ (x : List ℕ). marked n 9 ++ x) (fields_parted m ns) ∙ simp append_assoc
+
+-- one more field behind the first i
+pub field_stored : (l : List ℕ) (at : ℕ) (ns : List ℕ) (i : ℕ) (m : List ℕ) (p : ℕ) (m' : List ℕ) (p' : ℕ) → i < length ns
+    → Stored l at (fields (take i ns)) m p → Stored m p (marked (get_or ns i 0) 9) m' p' → Stored l at (fields (take (i + 1) ns)) m' p'
+field_stored l at ns i m p m' p' h s t =
+    let e = ap fields (take_more ns i 0 h) ∙ fields_push (take i ns) (get_or ns i 0) in
+    subst (λ (x : List ℕ). Stored l at x m' p') (sym e) (stored_behind l at (fields (take i ns)) m p _ m' p' s t)
+
+-- with all fields stored there is one at least, ..
+pub fields_some : (l : List ℕ) (at : ℕ) (ns : List ℕ) (i : ℕ) (m : List ℕ) (p : ℕ) → 0 < length ns → length ns ≤ i
+    → Stored l at (fields (take i ns)) m p → 1 ≤ p
+fields_some l at [] i m p h all s = absurd (not-suc-le-zero h)
+fields_some l at (n ∷ ns) i m p h all s =
+    omega (
+      arith,
+      s.0,
+      ap (λ (k : List ℕ). length (fields k)) (take_all i (n ∷ ns) all),
+      ap length (fields_parted n ns),
+      length-append (parted (map decimal (n ∷ ns))) (9 ∷ []),
+    )
+
+-- .. and in the last one's place comes the line end
+pub line_stored : (l : List ℕ) (at : ℕ) (ns : List ℕ) (i : ℕ) (m : List ℕ) (p : ℕ) → 0 < length ns → length ns ≤ i
+    → Stored l at (fields (take i ns)) m p → Stored l at (line_of ns) (set m (p - 1) 10) p
+line_stored l at [] i m p h all s = absurd (not-suc-le-zero h)
+line_stored l at (n ∷ ns) i m p h all s =
+    let e : fields (take i (n ∷ ns)) ≡ body ++ 9 ∷ [] = ap fields (take_all i (n ∷ ns) all) ∙ fields_parted n ns in
+    let before : p ≡ at + length body + 1 = omega (arith, s.0, ap length e, length-append body (9 ∷ [])) in
+    let last : p - 1 ≡ at + length body = omega arith in
+    let tabbed = s.1 ∙ ap (sets l at) e ∙ sym (sets_append l at body (9 ∷ [])) in (
+      omega (arith, length-append body (10 ∷ [])),
+      ap₂ (λ (k : List ℕ) (j : ℕ). set k j 10) tabbed last ∙ set-set (sets l at body) (at + length body) 9 10
+          ∙ sets_append l at body (10 ∷ []),
+    )
+  where
+    body : List ℕ
+    body = parted (map decimal (n ∷ ns))
 
 -- a text of one line
-pub text_one : (ns : List ℕ) → line_of ns ≡ text_of (ns ∷ [])
+text_one : (ns : List ℕ) → line_of ns ≡ text_of (ns ∷ [])
 unfolding text_of
 text_one ns = sym (append-nil (line_of ns))
+
+pub line_written : (l ns m : List ℕ) (p : ℕ) → Stored l 0 (line_of ns) m p → p ≤ length l
+    → Written l (text_of (ns ∷ [])) m p × Counts p m
+line_written l ns m p s room =
+    stored_written l (text_of (ns ∷ [])) m p (subst (λ (x : List ℕ). Stored l 0 x m p) (text_one ns) s) room
 
 -- one more line behind a text
 text_behind : (lines : List (List ℕ)) (ns : List ℕ) → text_of lines ++ line_of ns ≡ text_of (lines ++ ns ∷ [])
@@ -102,15 +145,13 @@ unfolding text_of
 text_behind [] ns = text_one ns
 text_behind (l ∷ lines) ns = append_assoc (line_of l) (text_of lines) (line_of ns) ∙ ap (λ (t : List ℕ). line_of l ++ t) (text_behind lines ns)
 
--- the pair n stored behind the lines of the first n
+-- the line n stored behind those of the first n
 pub row_stored : (l keys values : List ℕ) (n : ℕ) (m : List ℕ) (p : ℕ) (m' : List ℕ) (p' : ℕ)
-    → Stored l 0 (text_of (rows_to n keys values)) m p → Stored m p (marked (get_or keys n 0) 9 ++ marked (get_or values n 0) 10) m' p'
+    → Stored l 0 (text_of (rows_to n keys values)) m p → Stored m p (line_of (get_or keys n 0 ∷ get_or values n 0 ∷ [])) m' p'
     → Stored l 0 (text_of (rows_to (n + 1) keys values)) m' p'
 unfolding rows_to
 row_stored l keys values n m p m' p' s t =
     let more : suc n ≡ n + 1 = omega arith in
     let lines = rows_to n keys values in
-    let row = get_or keys n 0 ∷ get_or values n 0 ∷ [] in
-    let e = ap (λ (x : List ℕ). text_of lines ++ x) (pair_is_line (get_or keys n 0) (get_or values n 0)) ∙ text_behind lines row in
-    subst (λ (x : List ℕ). Stored l 0 x m' p') (e ∙ ap (λ (i : ℕ). text_of (rows_to i keys values)) more)
-    (stored_behind l 0 (text_of lines) m p _ m' p' s t)
+    let e = text_behind lines (get_or keys n 0 ∷ get_or values n 0 ∷ []) ∙ ap (λ (i : ℕ). text_of (rows_to i keys values)) more in
+    subst (λ (x : List ℕ). Stored l 0 x m' p') e (stored_behind l 0 (text_of lines) m p _ m' p' s t)

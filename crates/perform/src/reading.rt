@@ -4,7 +4,7 @@ ghost use Rattle.perform.specs.Perform.{text_of, Written, got, rows};
 ghost use Rattle.perform.specs.Printing.{Counts};
 
 use crate::ROOM;
-use crate::answer::{pair_line, pair_lines};
+use crate::answer::{answer_line, pair_lines};
 use board::reading::{hut_find, hut_listing};
 
 pub fn do_get(image: &[u8], key: u64, out: &mut [u8; ROOM]) -> usize
@@ -12,7 +12,7 @@ pub fn do_get(image: &[u8], key: u64, out: &mut [u8; ROOM]) -> usize
     ensures counts { Counts result out.new }
 {
     let found = hut_find(image, key);
-    pair_line(out, found.answer, found.value)
+    answer_line(out, &[found.answer, found.value])
 }
 
 // 4 blocks hold at most 56 entries.
@@ -23,5 +23,6 @@ pub fn do_list(image: &[u8; 1024], out: &mut [u8; ROOM]) -> usize
     let mut keys = [0u64; 56];
     let mut values = [0u64; 56];
     let listed = hut_listing(image, 0, &mut keys, &mut values);
-    pair_lines(out, &keys, &values, listed.count as usize)
+    let n = listed.count as usize;
+    pair_lines(out, &keys[..n], &values[..n])
 }

@@ -1,11 +1,12 @@
 -- Words stored one after another, and the stretches of a split put together.
 use Prim.Native.Nat.{ℕ, suc, ◌+◌, ◌-◌, ◌*◌, ◌≤◌, ◌<◌}
 use native.Mathlib.Omega.{arith}
-use Rattle.std.specs.Prelude.{Bool, cond, ◌≡◌, refl, get_or, drop, replicate}
+use Rattle.std.specs.Prelude.{Bool, cond, ◌≡◌, refl, get_or, take, replicate}
 use mathlib.Core.List.{List, [], ◌∷◌, ◌++◌, append_assoc}
 use Rattle.std.proofs.Common.{sym, ◌∙◌}
 use Rattle.std.proofs.Math.Path.{ap, ap₂}
 use Rattle.std.proofs.Math.ListN.{length, length-append}
+use Rattle.std.proofs.lemmas.List.{length-replicate, replicate-append-replicate}
 use Rattle.header.specs.Header.{alt_in, flipped, cleared_all}
 use Rattle.leaf.specs.Leaf.{Leaf, view}
 use Rattle.steps.specs.declared.Step.{Step}
@@ -18,8 +19,8 @@ use Rattle.lists.specs.Lists.{word_place, sib_place, low_word, high_word, head_i
 use Rattle.lists.specs.FullLists.{moved_slots, goes_up, new_header, entry_words, new_words, switched_head}
 use Rattle.lists.specs.FullLists.{split_stores, split_backs, split_list}
 use Rattle.lists.proofs.Sizes.{new_length, split_length, entry_length}
-use Rattle.emit.specs.Appended.{appended, appended_append, appended_start, step_first, stretch_more}
-use Rattle.split.specs.Heads.{drop_next, drop_end}
+use Rattle.emit.specs.Appended.{appended, appended_start, step_first, stretch_more}
+use Rattle.split.specs.Heads.{entries_more, taken_length}
 
 stores_append : (q : ℕ) (vs ws : List ℕ) → stores_from q (vs ++ ws) ≡ stores_from q vs ++ stores_from (q + length vs) ws
 stores_append q [] ws = let e : q ≡ q + 0 = omega arith in ap (λ (p : ℕ). stores_from p ws) e
@@ -37,56 +38,25 @@ stores_more list m r i j p q vs ws e a b f =
     ∙ ap (appended list i)
     (ap (λ (x : ℕ). stores_from p vs ++ stores_from x ws) b ∙ sym (stores_append p vs ws))
 
--- ---- the loops: the rest of each makes of the list what the whole makes of the first
+-- ---- one turn more of the loops
 
-pub zeros_start : (list : List ℕ) (at p : ℕ)
-    → appended list (at + 0) (stores_from (p + 0) (replicate 12 0)) ≡ appended list at (stores_from p (replicate 12 0))
-zeros_start list at p =
-    let a : at + 0 ≡ at = omega arith in
-    let b : p + 0 ≡ p = omega arith in ap₂ (λ (i q : ℕ). appended list i (stores_from q (replicate 12 0))) a b
+pub zeros_more : (list m r : List ℕ) (at p i : ℕ) → m ≡ appended list at (stores_from p (replicate i 0))
+    → r ≡ put_step m (at + i) (store (p + i) 0) → r ≡ appended list at (stores_from p (replicate (i + 1) 0))
+zeros_more list m r at p i e f =
+    let n : length (replicate i 0) ≡ i = length-replicate {A = ℕ} i 0 in
+    rw (← replicate-append-replicate {A = ℕ} i 1 0)
+    (stores_more list m r at (at + i) p (p + i) (replicate i 0) (0 ∷ []) e (omega arith) (omega arith)
+    (step_first m r (at + i) (store (p + i) 0) f))
 
-pub zeros_end : (list whole : List ℕ) (at p i : ℕ) → i ≡ 12
-    → appended list (at + i) (stores_from (p + i) (replicate (12 - i) 0)) ≡ whole → list ≡ whole
-unfolding appended
-zeros_end list whole at p i e q = let a : 12 - i ≡ 0 = omega arith in rw a at q
-
-pub entries_start : (list : List ℕ) (at p : ℕ) (L : Leaf) (ss : List ℕ)
-    → appended list (at + 2 * 0) (stores_from (p + 2 * 0) (entry_words L (drop 0 ss))) ≡ appended list at
-    (stores_from p (entry_words L ss))
-entries_start list at p L ss =
-    let a : at + 2 * 0 ≡ at = omega arith in
-    let b : p + 2 * 0 ≡ p = omega arith in ap₂ (λ (i q : ℕ). appended list i (stores_from q (entry_words L ss))) a b
-
-pub entries_end : (list whole : List ℕ) (at p i : ℕ) (L : Leaf) (ss : List ℕ) → length ss ≤ i
-    → appended list (at + 2 * i) (stores_from (p + 2 * i) (entry_words L (drop i ss))) ≡ whole → list ≡ whole
-unfolding appended
-entries_end list whole at p i L ss h q = rw (drop_end ss i h) at q
-
-module _ (list r whole : List ℕ) (at p i : ℕ) where
-  pub zeros_next : i < 12 → r ≡ put_step list (at + i) (store (p + i) 0)
-      → appended list (at + i) (stores_from (p + i) (replicate (12 - i) 0)) ≡ whole
-      → appended r (at + (i + 1)) (stores_from (p + (i + 1)) (replicate (12 - (i + 1)) 0)) ≡ whole
-  unfolding appended
-  zeros_next h e q =
-      let a : 12 - i ≡ suc (12 - (i + 1)) = omega arith in
-      let b : at + (i + 1) ≡ suc (at + i) = omega arith in
-      let d : p + (i + 1) ≡ suc (p + i) = omega arith in
-      rw (e, b, d) (rw a at q)
-
-  pub entries_next : (L : Leaf) (ss : List ℕ) (k v : ℕ) → i < length ss → k ≡ L.key (get_or ss i 0) → v ≡ L.val (get_or ss i 0)
-      → r ≡ appended list (at + 2 * i) (stores_from (p + 2 * i) (k ∷ v ∷ []))
-      → appended list (at + 2 * i) (stores_from (p + 2 * i) (entry_words L (drop i ss))) ≡ whole
-      → appended r (at + 2 * (i + 1)) (stores_from (p + 2 * (i + 1)) (entry_words L (drop (i + 1) ss))) ≡ whole
-  entries_next L ss k v h ek ev e q =
-      let b : at + 2 * (i + 1) ≡ at + 2 * i + 2 = omega arith in
-      let d : p + 2 * (i + 1) ≡ suc (suc (p + 2 * i)) = omega arith in
-      let rest = stores_from (suc (suc (p + 2 * i))) (entry_words L (drop (i + 1) ss)) in
-      ap (λ (z : ℕ). appended r (at + 2 * (i + 1)) (stores_from z (entry_words L (drop (i + 1) ss)))) d
-      ∙ ap₂ (λ (z : List ℕ) (j : ℕ). appended z j rest) e b
-      ∙ appended_append (stores_from (p + 2 * i) (k ∷ v ∷ [])) rest list (at + 2 * i) (at + 2 * i + 2) refl
-      ∙ ap₂ (λ (x y : ℕ). appended list (at + 2 * i) (stores_from (p + 2 * i) (x ∷ y ∷ entry_words L (drop (i + 1) ss)))) ek ev
-      ∙ ap (λ (z : List ℕ). appended list (at + 2 * i) (stores_from (p + 2 * i) (entry_words L z))) (sym (drop_next ss i h))
-      ∙ q
+pub entries_next : (list m r : List ℕ) (at p i : ℕ) (L : Leaf) (ss : List ℕ) (k v : ℕ) → i < length ss
+    → m ≡ appended list at (stores_from p (entry_words L (take i ss)))
+    → k ≡ L.key (get_or ss i 0) → v ≡ L.val (get_or ss i 0)
+    → r ≡ appended m (at + 2 * i) (stores_from (p + 2 * i) (k ∷ v ∷ []))
+    → r ≡ appended list at (stores_from p (entry_words L (take (i + 1) ss)))
+entries_next list m r at p i L ss k v h e ek ev f =
+    let n : length (entry_words L (take i ss)) ≡ 2 * i = entry_length L (take i ss) ∙ omega (arith, taken_length ss i h) in
+    rw (entries_more ss i h L, ← ek, ← ev)
+    (stores_more list m r at (at + 2 * i) p (p + 2 * i) (entry_words L (take i ss)) (k ∷ v ∷ []) e (omega arith) (omega arith) f)
 
 -- ---- the new leaf
 

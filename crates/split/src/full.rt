@@ -5,37 +5,34 @@ ghost use Rattle.leaf.specs.Leaf.{leaf_in, Right};
 ghost use Rattle.leaf.specs.Search.{count};
 ghost use Rattle.split.specs.Full.{FullPut};
 
-use crate::heads::old_head;
+use crate::moved::upper_half;
 use crate::write::write_split;
+use emit::entry::Entry;
 use emit::plain::append_plain_put;
 use header::Header;
 use leaf::search::key_at;
-use order::order_from;
 
-// Of the slots in rising order of their keys the upper half moves. Tells how many steps it wrote. The leaf is that of the block in
-// some image whose list this is.
+// Tells how many steps it wrote. The leaf is that of the block in some image whose list this is.
 pub fn write_full_put(
     list: &mut [u64],
     head: Header,
-    leaf: &[u8],
+    leaf: &[u8; 256],
     block: u64,
     new: u64,
     key: u64,
     value: u64,
 ) -> usize
-    requires { (112 ≤ length list.old) × (256 ≤ length leaf.now) × (block < 256) × (new < 256)
+    requires { (112 ≤ length list.old) × (block < 256) × (new < 256)
         × (bits_of head ≡ head_at leaf.now 0) × Right (leaf_in leaf.now) × (count (leaf_in leaf.now) ≡ 14) }
     ensures { FullPut (bits_of head) (leaf_in leaf.now) block new key value
         list.old list.new result }
 {
-    let mut order = [0u8; 14];
-    order_from(leaf, 0, &mut order);
-    let moved = &order[7..14];
-    let up = key_at(leaf, moved[0] as usize) < key;
-    let left = old_head(head, moved);
-    write_split(list, head, left, leaf, moved, block, new, up, key, value);
+    let moved = upper_half(leaf);
+    let entry = Entry { key, value };
+    let up = key_at(leaf, moved.slots[0] as usize) < key;
+    let left = write_split(list, head, leaf, &moved, block, new, up, entry);
     if up {
         return 42;
     }
-    42 + append_plain_put(list, 42, left, leaf, block, key, value)
+    42 + append_plain_put(list, 42, left, leaf, block, entry)
 }

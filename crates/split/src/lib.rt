@@ -4,4 +4,5 @@
 
 pub mod full;
 pub mod heads;
+pub mod moved;
 pub mod write;

@@ -1,5 +1,9 @@
-// What a list is made of, and the two counts that are told of it. The memory model stands in specs/: this crate has no code.
+// What a list is made of, and the two counts that are told of it. The memory model stands in specs/.
 #![tactic(auto)]
+
+mod refusal;
+
+pub use crate::refusal::Refusal;
 
 // "A step is a store of one word at a place, a write-back of one line, or a fence."
 // The place of a store is the number of its word, an eighth of the byte place that stands in the list.

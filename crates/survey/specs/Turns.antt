@@ -18,9 +18,22 @@ use Rattle.leaf.specs.Search.{smallest_of, count}
 use Rattle.leaf.proofs.TallyLaws.{least_reaches, smallest_is}
 use Rattle.leaf.specs.Tally.{Tells, wrong_at, at_most, most_to, twins}
 use Rattle.leaf.specs.declared.tally.Tally.{Tally}
-use Rattle.survey.specs.Walk.{State, stopped, moved, first_fault, again_by, bare_by, low_by, fault_by, reached_by, smallest_by, fault_of, judged, start, walk, surveyed, visited, NotedTo, Noted}
+use Rattle.survey.specs.declared.walk.Fault.{Fault}
+use Rattle.survey.specs.declared.walk.Fault.TheVariants.{Far, Again, Locked, Bare, WrongPrint, Twin, Low}
+use Rattle.survey.specs.declared.walk.Stage.{Stage}
+use Rattle.survey.specs.declared.walk.Stage.TheVariants.{GoesOn, Ended, Broken}
+use Rattle.survey.specs.Walk.{State, fault_number, stage_number, stopped, moved, first_fault, again_by, bare_by, low_by, fault_by, reached_by, smallest_by, fault_of, judged, start, walk, surveyed, visited, NotedTo, Noted}
 
 -- ---- the fault
+
+pub fault_some : (f : Fault) → fault_number f ≡ zero → ⊥
+fault_some Far e = omega arith
+fault_some Again e = omega arith
+fault_some Locked e = omega arith
+fault_some Bare e = omega arith
+fault_some WrongPrint e = omega arith
+fault_some Twin e = omega arith
+fault_some Low e = omega arith
 
 pub fault_near : (N next head : ℕ) (twin : Bool) (t : Tally) (low : ℕ) (st : State) → fault_by N next head twin t low st ≡ 0
     → next < N
@@ -66,6 +79,11 @@ unfolding fault_of
 fault_is L N next head t st tells small en el = λ i.
     first_fault (leb N (en i)) (again_by st (en i)) (el i) (bare_by st (tells.entries i)) (not (eqb (tells.wrong i) 0)) (twins L)
     (both (not (eqb st.entries 0)) (not (reached_is L t tells small st.last i)))
+
+pub stage_stops : (s : Stage) → (s ≡ GoesOn → ⊥) → stage_number s ≡ zero → ⊥
+stage_stops GoesOn ne e = ne refl
+stage_stops Ended ne e = omega arith
+stage_stops (Broken f) ne e = fault_some f e
 
 -- ---- the leaf judged
 
@@ -306,29 +324,25 @@ module _ (w : ℕ → ℕ) (N key : ℕ) where
     pub coming : Coming (view w) N key i st
     pub noted : NotedTo (view w) (way (view w) N key) i leasts numbers
 
-  pub kept_start : (st : State) (leasts numbers : List ℕ) → 0 < N → st ≡ start → Kept st.leaves st leasts numbers
-  kept_start st leasts numbers h e = subst (λ (s : State). Kept s.leaves s leasts numbers) (sym e) (record {
+  pub kept_start : (st : State) (leasts numbers : List ℕ) → 0 < N → st ≡ start → Kept 0 st leasts numbers
+  kept_start st leasts numbers h e = subst (λ (s : State). Kept 0 s leasts numbers) (sym e) (record {
     bounded = start_bounded N h;
     rest = walk_whole (view w) N key start refl;
     coming = coming_all (view w) N key start refl;
     noted = noted_none (view w) (way (view w) N key) leasts numbers;
   })
 
-  pub kept_turn : (i : ℕ) (st r : State) (leasts numbers ls ns : List ℕ) → Kept i st leasts numbers → i < N → st.stage ≡ 0
-      → r ≡ judged (view w st.at) N key st → ls ≡ set leasts i (smallest_of (view w st.at)) → ns ≡ set numbers i st.at
+  pub kept_turn : (i : ℕ) (st r : State) (leasts numbers ls ns : List ℕ) → Kept i st leasts numbers → st.leaves ≡ i → i < N → st.stage ≡ 0
+      → r ≡ judged (view w st.at) N key st → ls ≡ set leasts st.leaves (smallest_of (view w st.at)) → ns ≡ set numbers st.leaves st.at
       → Kept (i + 1) r ls ns
-  kept_turn i st r leasts numbers ls ns k h e j el en = record {
+  kept_turn i st r leasts numbers ls ns k p h e j el en = record {
     bounded = turn_bounded w N key i st r k.bounded j;
     rest = walk_turn (view w) N key i st r (surveyed (view w) N key) h e j k.rest;
     coming = coming_next (view w) N key i st k.coming r h e j;
     noted = noted_next (view w) (way (view w) N key) i st.at leasts numbers ls ns
-        (coming_here (view w) N key i st k.coming h e) k.noted el en;
+        (coming_here (view w) N key i st k.coming h e) k.noted
+        (el ∙ ap (λ (n : ℕ). set leasts n (smallest_of (view w st.at))) p) (en ∙ ap (λ (n : ℕ). set numbers n st.at) p);
   }
-
-  -- the walk goes on
-  pub kept_on : (st r : State) (ls ns : List ℕ) → r ≡ judged (view w st.at) N key st → r.stage ≡ 0
-      → Kept (st.leaves + 1) r ls ns → Kept r.leaves r ls ns
-  kept_on st r ls ns j e k = subst (λ (i : ℕ). Kept i r ls ns) (sym (judged_goes (view w st.at) N key st r j e)) k
 
   module _ (i : ℕ) (st : State) (leasts numbers : List ℕ) (k : Kept i st leasts numbers) where
     -- the walk has stopped, or made all its turns

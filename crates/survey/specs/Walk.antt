@@ -1,5 +1,5 @@
 -- The walk along the chain as a function of the leaves I of an image of N blocks and of the key sought.
-use Rattle.std.specs.Prelude.{Bool, true, false, cond, not, List, [], ◌∷◌, ◌≡◌, ℕ, zero, suc, ◌+◌, ◌<◌, leb, eqb, length, get_or}
+use Rattle.std.specs.Prelude.{Bool, true, false, cond, not, List, [], ◌∷◌, ◌≡◌, ℕ, zero, suc, ◌+◌, ◌<◌, leb, eqb, length, get_or, Option, Some, None}
 use Rattle.words.specs.Update.{upd}
 use Rattle.words.specs.Bools.{both}
 use Rattle.words.specs.Below.{count_below}
@@ -8,9 +8,32 @@ use Rattle.leaf.specs.Leaf.{Leaf}
 use Rattle.leaf.specs.Search.{smallest_of, count}
 use Rattle.leaf.specs.Tally.{wrong_at, at_most, most_to, twins}
 use Rattle.leaf.specs.declared.tally.Tally.{Tally}
-use Rattle.survey.specs.Marks.{words_in, blocks_in, is_in}
-use Rattle.survey.specs.declared.walk.Progress.{Progress}
+use Rattle.survey.specs.Marks.{blocks_in, is_in}
+use Rattle.survey.specs.declared.walk.Fault.{Fault}
+use Rattle.survey.specs.declared.walk.Fault.TheVariants.{Far, Again, Locked, Bare, WrongPrint, Twin, Low}
+use Rattle.survey.specs.declared.walk.Stage.{Stage}
+use Rattle.survey.specs.declared.walk.Stage.TheVariants.{GoesOn, Ended, Broken}
 use Rattle.survey.specs.declared.walk.Walk.{Walk}
+
+-- request [1]'s numbers
+abbrev pub fault_number : Fault → ℕ
+fault_number Far = 31
+fault_number Again = 32
+fault_number Locked = 33
+fault_number Bare = 34
+fault_number WrongPrint = 35
+fault_number Twin = 36
+fault_number Low = 37
+
+-- .. 0 where there is no fault
+abbrev pub number_told : Option Fault → ℕ
+number_told (Some f) = fault_number f
+number_told None = 0
+
+abbrev pub stage_number : Stage → ℕ
+stage_number GoesOn = 0
+stage_number Ended = 1
+stage_number (Broken f) = fault_number f
 
 -- The stage: 0 while the walk goes on, 1 where the chain has ended, else the fault. The leaf at hand and the one before it; the last
 -- leaf with a key at most the one sought, and the leaf before that; how many leaves and entries were passed, their largest key, and
@@ -26,23 +49,9 @@ pub record State : Type 0 where
   pub last : ℕ
   pub met : ℕ → Bool
 
--- on the way, with the words of the blocks met
-abbrev pub state_in : Progress → List ℕ → State
-state_in w met = record {
-  stage = w.stage;
-  at = w.at;
-  prev = w.prev;
-  target = w.target;
-  before = w.before;
-  leaves = w.leaves;
-  entries = w.entries;
-  last = w.last;
-  met = is_in (words_in met);
-}
-
 abbrev pub state_of : Walk → State
 state_of w = record {
-  stage = w.stage;
+  stage = stage_number w.stage;
   at = w.at;
   prev = w.prev;
   target = w.target;

@@ -1,76 +1,64 @@
-// A set of block numbers, one bit for each, in four words.
-ghost use Rattle.std.specs.Prelude.{◌≡◌, not, ◌≤◌, ◌<◌, length};
-ghost use Rattle.header.specs.Fields.{patched};
+// A set of block numbers, one bit for each.
+ghost use Rattle.std.specs.Prelude.{◌≡◌, true, false, not, ◌≤◌, ◌<◌};
+ghost use Rattle.words.specs.Below.{FirstBelow};
+ghost use Rattle.words.specs.Update.{upd};
 ghost use Rattle.leaf.specs.Search.{lowest};
-ghost use Rattle.survey.specs.Marks.{words_in, blocks_in, is_in, FirstOut};
+ghost use Rattle.survey.specs.Marks.{blocks_in, is_in};
 
 use header::bits::{get, lowest_zero};
-use leaf::search::Slot;
 
-// Whether a block is in the set. The words are lent, and not fields: which of them has the block is then no branch.
-pub fn has(words: &[u64], block: usize) -> bool
-    requires { (length words.now ≡ 4) × (block < 256) }
-    ensures { result ≡ is_in (words_in words.now) block }
-{
-    get(words[block / 64], block % 64, 1) == 1
-}
-
-// Puts a block into the set.
-pub fn mark(words: &mut [u64], block: usize)
-    requires { (length words.old ≡ 4) × (block < 256) }
-    ensures { words_in words.new ≡ patched (words_in words.old) block 1 1 }
-{
-    let i = block / 64;
-    words[i] = words[i] | (1 << (block % 64));
-}
-
-// A set as a value.
+// Four words of 64 bits, in an array: which of them has a block is then no branch.
 #[derive(Clone, Copy)]
 pub struct Marks {
-    pub a: u64,
-    pub b: u64,
-    pub c: u64,
-    pub d: u64,
+    words: [u64; 4],
 }
 
 impl Marks {
-    pub fn of(words: &[u64]) -> Marks
-        requires { length words.now ≡ 4 }
-        ensures { blocks_in result ≡ words_in words.now }
+    // No block.
+    #[tactic(auto, using(crate::specs::Marks::in_none))]
+    pub fn none() -> Marks
+        ensures { is_in (blocks_in result) ≡ (λ b. false) }
     {
-        Marks {
-            a: words[0],
-            b: words[1],
-            c: words[2],
-            d: words[3],
-        }
+        Marks { words: [0; 4] }
     }
 
-    // The lowest block that is not in the set; 256 where each is.
-    fn first_out(self) -> usize
-        ensures { FirstOut (blocks_in self) result }
+    // Whether a block is in the set.
+    #[tactic(auto, using(crate::specs::Marks::in_word))]
+    pub fn has(&self, block: usize) -> bool
+        requires { block < 256 }
+        ensures { result ≡ is_in (blocks_in self.now) block }
     {
-        let a = lowest_zero(self.a);
-        if a < 64 {
-            return a;
-        }
-        let b = lowest_zero(self.b);
-        if b < 64 {
-            return 64 + b;
-        }
-        let c = lowest_zero(self.c);
-        if c < 64 {
-            return 128 + c;
-        }
-        192 + lowest_zero(self.d)
+        get(self.words[block / 64], block % 64, 1) == 1
     }
-}
 
-// The lowest block that is not in the set, of n blocks; it stands in a `Slot`, as a slot's number would.
-pub fn lowest_out(marks: Marks, n: usize) -> Slot
-    requires { n ≤ 256 }
-    ensures { result ≡ lowest (λ b. not (is_in (blocks_in marks) b)) n 0 }
-{
-    let b = marks.first_out();
-    if b < n { Slot::At(b) } else { Slot::Missing }
+    // Puts a block into the set.
+    #[tactic(auto, using(crate::specs::Marks::in_or))]
+    pub fn mark(&mut self, block: usize)
+        requires { block < 256 }
+        ensures { is_in (blocks_in self.new) ≡ upd (is_in (blocks_in self.old)) block true }
+    {
+        let i = block / 64;
+        self.words[i] = self.words[i] | (1 << (block % 64));
+    }
+
+    // The lowest of all 256 blocks that is not in the set.
+    fn first_out(self) -> Option<usize>
+        ensures { FirstBelow (λ b. not (is_in (blocks_in self) b)) 256 result }
+    {
+        for (i, word) in self.words.iter().enumerate() {
+            if let Some(bit) = lowest_zero(*word) {
+                return Some(64 * i + bit);
+            }
+        }
+        None
+    }
+
+    // The lowest of n blocks that is not in the set.
+    pub fn lowest_out(self, n: usize) -> Option<usize>
+        requires { n ≤ 256 }
+        ensures { result ≡ lowest (λ b. not (is_in (blocks_in self) b)) n 0 }
+    {
+        let block = self.first_out()?;
+        if block < n { Some(block) } else { None }
+    }
 }

@@ -2,6 +2,7 @@
 ghost use Rattle.std.specs.Prelude.{◌≡◌, []};
 ghost use Rattle.writing.specs.Writing.{made_as};
 
+use steps::Refusal;
 use writing::Made;
 
 #[repr(C)]
@@ -13,33 +14,24 @@ pub struct HutMade {
     pub word_writes: u64,
 }
 
-fn refused(answer: u64) -> HutMade
-    ensures { (result.answer ≡ answer) × (result.steps ≡ 0) × (result.line_writes ≡ 0) × (result.word_writes ≡ 0) }
-{
-    HutMade {
-        answer: answer,
-        steps: 0,
-        line_writes: 0,
-        word_writes: 0,
-    }
-}
+impl From<Result<Made, Refusal>> for HutMade {
+    ghost from_gives = { λ made told. (told.answer ≡ (made_as made []).answer) × (told.steps ≡ (made_as made []).steps)
+        × (told.line_writes ≡ (made_as made []).lines) × (told.word_writes ≡ (made_as made []).words) };
 
-pub fn told_made(made: Made) -> HutMade
-    ensures { (result.answer ≡ (made_as made []).answer) × (result.steps ≡ (made_as made []).steps)
-        × (result.line_writes ≡ (made_as made []).lines) × (result.word_writes ≡ (made_as made []).words) }
-{
-    match made {
-        Made::Steps(steps, lines, words) => HutMade {
-            answer: 0,
-            steps: steps,
-            line_writes: lines.0,
-            word_writes: words.0,
-        },
-        Made::BadImage => refused(1),
-        Made::ShortList => refused(2),
-        Made::Unsound => refused(3),
-        Made::Present => refused(4),
-        Made::Absent => refused(5),
-        Made::Full => refused(6),
+    fn from(made: Result<Made, Refusal>) -> HutMade {
+        match made {
+            Ok(made) => HutMade {
+                answer: 0,
+                steps: made.steps,
+                line_writes: made.line_writes.0,
+                word_writes: made.word_writes.0,
+            },
+            Err(refusal) => HutMade {
+                answer: u64::from(refusal),
+                steps: 0,
+                line_writes: 0,
+                word_writes: 0,
+            },
+        }
     }
 }

@@ -2,9 +2,8 @@
 ghost use Rattle.std.specs.Prelude.{◌≡◌};
 ghost use Rattle.index.specs.Reading.{found_as, listed_as, recovered_as};
 
-use index::find::Found;
-use index::listing::Listed;
 use index::recovery::Recovered;
+use steps::Refusal;
 
 #[repr(C)]
 #[derive(Clone, Copy)]
@@ -13,26 +12,17 @@ pub struct HutFound {
     pub value: u64,
 }
 
-pub fn told_found(found: Found) -> HutFound
-    ensures { (result.answer ≡ (found_as found).answer) × (result.value ≡ (found_as found).value) }
-{
-    match found {
-        Found::Value(value) => HutFound {
-            answer: 0,
-            value: value,
-        },
-        Found::BadImage => HutFound {
-            answer: 1,
-            value: 0,
-        },
-        Found::Unsound => HutFound {
-            answer: 3,
-            value: 0,
-        },
-        Found::Absent => HutFound {
-            answer: 5,
-            value: 0,
-        },
+impl From<Result<u64, Refusal>> for HutFound {
+    ghost from_gives = { λ found told. (told.answer ≡ (found_as found).answer) × (told.value ≡ (found_as found).value) };
+
+    fn from(found: Result<u64, Refusal>) -> HutFound {
+        match found {
+            Ok(value) => HutFound { answer: 0, value },
+            Err(refusal) => HutFound {
+                answer: u64::from(refusal),
+                value: 0,
+            },
+        }
     }
 }
 
@@ -43,22 +33,17 @@ pub struct HutListed {
     pub count: u64,
 }
 
-pub fn told_listed(listed: Listed) -> HutListed
-    ensures { (result.answer ≡ (listed_as listed).answer) × (result.count ≡ (listed_as listed).count) }
-{
-    match listed {
-        Listed::Count(count) => HutListed {
-            answer: 0,
-            count: count,
-        },
-        Listed::BadImage => HutListed {
-            answer: 1,
-            count: 0,
-        },
-        Listed::Unsound => HutListed {
-            answer: 3,
-            count: 0,
-        },
+impl From<Result<u64, Refusal>> for HutListed {
+    ghost from_gives = { λ listed told. (told.answer ≡ (listed_as listed).answer) × (told.count ≡ (listed_as listed).count) };
+
+    fn from(listed: Result<u64, Refusal>) -> HutListed {
+        match listed {
+            Ok(count) => HutListed { answer: 0, count },
+            Err(refusal) => HutListed {
+                answer: u64::from(refusal),
+                count: 0,
+            },
+        }
     }
 }
 
@@ -70,30 +55,22 @@ pub struct HutRecovered {
     pub entries: u64,
 }
 
-pub fn told_recovered(recovered: Recovered) -> HutRecovered
-    ensures { (result.answer ≡ (recovered_as recovered).answer) × (result.leaves ≡ (recovered_as recovered).leaves)
-        × (result.entries ≡ (recovered_as recovered).entries) }
-{
-    match recovered {
-        Recovered::Leaves(leaves, entries) => HutRecovered {
-            answer: 0,
-            leaves: leaves,
-            entries: entries,
-        },
-        Recovered::BadImage => HutRecovered {
-            answer: 1,
-            leaves: 0,
-            entries: 0,
-        },
-        Recovered::ShortBuffer => HutRecovered {
-            answer: 8,
-            leaves: 0,
-            entries: 0,
-        },
-        Recovered::Unsound => HutRecovered {
-            answer: 3,
-            leaves: 0,
-            entries: 0,
-        },
+impl From<Result<Recovered, Refusal>> for HutRecovered {
+    ghost from_gives = { λ recovered told. (told.answer ≡ (recovered_as recovered).answer)
+        × (told.leaves ≡ (recovered_as recovered).leaves) × (told.entries ≡ (recovered_as recovered).entries) };
+
+    fn from(recovered: Result<Recovered, Refusal>) -> HutRecovered {
+        match recovered {
+            Ok(Recovered { leaves, entries }) => HutRecovered {
+                answer: 0,
+                leaves,
+                entries,
+            },
+            Err(refusal) => HutRecovered {
+                answer: u64::from(refusal),
+                leaves: 0,
+                entries: 0,
+            },
+        }
     }
 }

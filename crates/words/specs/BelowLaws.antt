@@ -1,13 +1,13 @@
--- Laws of the two questions about the numbers below n.
+-- Laws of the three questions about the numbers below n.
 use Prim.Native.Nat.{ℕ, zero, suc, ◌+◌, ◌-◌, ◌<◌, ◌≤◌}
 use Rattle.std.proofs.Math.Nat.{add-suc}
 use Rattle.std.proofs.Common.{add-zero, add-one, sym, ◌∙◌}
 use native.Mathlib.Omega.{arith}
 use Rattle.std.proofs.Math.Decide.{dec_lt, ℕ_discrete}
-use Rattle.std.specs.Prelude.{Bool, false, ◌||◌, ◌≡◌}
+use Rattle.std.specs.Prelude.{Bool, false, ◌||◌, ◌≡◌, Option, Some, None}
 use Rattle.std.proofs.Math.Bool.{true}
 use Rattle.std.proofs.Math.Path.{refl, ap}
-use Rattle.words.specs.Below.{any_below, count_below}
+use Rattle.words.specs.Below.{any_below, count_below, FirstBelow}
 use Rattle.words.specs.Bools.{bit, bit_most, by_test, differ, not_so, or_right}
 use Rattle.words.specs.Update.{upd, upd_same, upd_other}
 
@@ -146,3 +146,14 @@ count_upd f s x (suc n) h =
       )
       | no ne ↦ omega (arith, count_upd f s x n (omega arith), ap bit (upd_other f s x n (λ e. ne (sym e))))
     ]
+
+-- ---- which is the first
+
+-- by another test that holds where the one holds
+pub first_cong : (f g : ℕ → Bool) (n : ℕ) (r : Option ℕ) → ((t : ℕ) → t < n → f t ≡ g t) → FirstBelow f n r → FirstBelow g n r
+first_cong f g n (Some r) h z = record {
+  inside = z.inside;
+  holds = sym (h r z.inside) ∙ z.holds;
+  before = λ t b. sym (h t (omega (arith, z.inside))) ∙ z.before t b;
+}
+first_cong f g n None h z = λ t b. sym (h t b) ∙ z t b

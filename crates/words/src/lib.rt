@@ -1,30 +1,23 @@
 // Eight bytes of a slice, read and stored as one little-endian word.
 #![tactic(auto)]
 
-ghost use Rattle.std.specs.Prelude.{◌≡◌, ◌+◌, ◌≤◌, ◌<◌, length, get_or};
+ghost use Rattle.std.specs.Prelude.{◌≡◌, ◌+◌, ◌≤◌, ◌<◌, length};
 ghost use Rattle.words.specs.Words.{pair_at, four_at, word_at, store_at};
 
-pub const LARGEST: u64 = 18446744073709551615;
+pub const LARGEST: u64 = u64::MAX;
 
-// A cast told with its bound, which the sums below need.
+// A cast told with its bound.
 pub fn wide(byte: u8) -> u64
     ensures { (result ≡ byte) × (result < 256) }
 {
     byte as u64
 }
 
-fn byte_at(bytes: &[u8], place: usize) -> u64
-    requires { place < length bytes.now }
-    ensures { (result ≡ get_or bytes.now place 0) × (result < 256) }
-{
-    wide(bytes[place])
-}
-
 fn pair_at(bytes: &[u8], place: usize) -> u64
     requires { place + 2 ≤ length bytes.now }
     ensures { (result ≡ pair_at bytes.now place) × (result < 65536) }
 {
-    byte_at(bytes, place) + 256 * byte_at(bytes, place + 1)
+    u64::from(bytes[place]) + 256 * u64::from(bytes[place + 1])
 }
 
 fn four_at(bytes: &[u8], place: usize) -> u64
@@ -35,6 +28,7 @@ fn four_at(bytes: &[u8], place: usize) -> u64
 }
 
 // Made of halves of halves: each sum is then of two parts that share no bit, and the compiler makes one load of all eight.
+#[tactic(auto, unfolding(crate::specs::Words::word_at))]
 pub fn word_at(bytes: &[u8], place: usize) -> u64
     requires { place + 8 ≤ length bytes.now }
     ensures { result ≡ word_at bytes.now place }

@@ -1,25 +1,24 @@
 -- A block of an image, as the code reads it.
-use Rattle.std.specs.Prelude.{◌≡◌, List, ℕ, ◌+◌, ◌-◌, ◌*◌, take, drop}
-use Rattle.std.proofs.Common.{sym, ap, ap₂, ◌∙◌, arith}
-use Rattle.words.specs.Words.{word_at, reads}
+use Rattle.std.specs.Prelude.{◌≡◌, ◌≢◌, List, ℕ, ◌+◌, ◌-◌, ◌*◌, take, drop, Option, Some, None, false, is_some}
+use Rattle.std.proofs.Common.{sym, refl, ap₂, ◌∙◌, arith}
+use Rattle.words.specs.Words.{reads}
 use Rattle.words.specs.WordLaws.{reads_block}
 use Rattle.header.specs.Header.{whole, head_at}
-use Rattle.leaf.specs.Leaf.{view}
 use Rattle.leaf.proofs.LeafLaws.{block_at}
 use Rattle.leaf.specs.Search.{slot_of, Within}
 use Rattle.leaf.proofs.SearchLaws.{slot_at}
-use Rattle.leaf.specs.declared.search.Slot.{Slot}
-use Rattle.leaf.specs.declared.search.Slot.TheVariants.{At, Missing}
 use Rattle.image.proofs.Blocks.{view_size}
+use Rattle.image.specs.Image.{leaves}
 use Rattle.lists.specs.Lists.{head_in}
+use Rattle.words.specs.WordLaws.{Bytes}
+use Rattle.leaf.specs.Leaf.{Leaf}
+use Rattle.lists.proofs.Bytes.{reads_small}
+use Rattle.split.specs.Full.{HasLeaf}
 
-pub head_in_lem : (l : List ℕ) (b : ℕ) → head_at l (256 * b) ≡ head_in (reads l) b
-unfolding head_at reads
-head_in_lem l b =
-    let p : 256 * b ≡ 8 * (32 * b + 0) = omega arith in
-    let q : 256 * b + 8 ≡ 8 * (32 * b + 1) = omega arith in
-    ap₂ whole (ap (word_at l) p ∙ sym (block_at (reads l) b 0 (omega arith)))
-    (ap (word_at l) q ∙ sym (block_at (reads l) b 1 (omega arith)))
+-- a slot that has a key is one of the 14
+pub slot_within : (l : List ℕ) (b k : ℕ) (x : Option ℕ) → x ≡ slot_of (leaves l b) k → Within 14 x
+slot_within l b k (Some s) e = rw (view_size (reads l) b) at (slot_at (leaves l b) k s (sym e)).0
+slot_within l b k None e = tt
 
 -- the header at the start of a block's part, from a up to e
 pub part_head : (l : List ℕ) (b a e : ℕ) → a ≡ 256 * b → e ≡ a + 256 → head_at (take (e - a) (drop a l)) 0 ≡ head_in (reads l) b
@@ -30,7 +29,12 @@ part_head l b a e p q =
     (ap₂ whole (reads_block l b 0 (omega arith) ∙ sym (block_at (reads l) b 0 (omega arith)))
     (reads_block l b 1 (omega arith) ∙ sym (block_at (reads l) b 1 (omega arith))))
 
--- a slot that has a key is one of the 14
-pub slot_within : (w : ℕ → ℕ) (b k : ℕ) (x : Slot) → x ≡ slot_of (view w b) k → Within 14 x
-slot_within w b k (At s) e = rw (view_size w b) at (slot_at (view w b) k s (sym e)).0
-slot_within w b k Missing e = tt
+-- a put into a full leaf rests on this: the leaf and its header are the image's
+pub has_leaf : (l : List ℕ) (h : ℕ) (L : Leaf) (b c : ℕ) → Bytes l → h ≡ head_in (reads l) b → L ≡ leaves l b → b ≢ c
+    → HasLeaf h L b c (reads l)
+has_leaf l h L b c bytes head same apart = record { head = sym head; leaf = sym same; words = reads_small l bytes; apart = apart }
+
+-- an Option by its test
+pub not_some : (x : Option ℕ) → is_some x ≡ false → x ≡ None
+not_some (Some s) h = absurd (cc)
+not_some None h = refl

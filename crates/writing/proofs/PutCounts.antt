@@ -1,33 +1,34 @@
 -- How many line writes and word writes a put has, by its number of steps.
-use Rattle.std.specs.Prelude.{◌≡◌, refl, Bool, true, false, ◌⊎◌, ℕ, ◌+◌, ◌-◌, ◌*◌, ◌≤◌}
+use Rattle.std.specs.Prelude.{◌≡◌, refl, Bool, true, false, ◌⊎◌, ℕ, Ok, ◌+◌, ◌-◌, ◌*◌, ◌≤◌}
 use Rattle.std.proofs.Common.{sym, ◌∙◌, arith, ne_eqb, lt-ltb, le-ltb, length-append}
-use Rattle.std.proofs.Math.Path.{ap}
+use Rattle.std.proofs.Math.Path.{ap, ap₂}
 use Rattle.std.proofs.Math.Bool.{cond}
 use mathlib.Core.List.{List, [], ◌++◌}
 use Rattle.std.proofs.Math.Logic.{inl, inr}
 use Rattle.std.proofs.Math.Decide.{dec_lt}
 use Rattle.std.proofs.Math.ListN.{length}
 use Rattle.words.specs.Below.{count_below}
-use Rattle.leaf.specs.Leaf.{Leaf, occ_in, view}
-use Rattle.leaf.specs.Search.{lowest_vacant}
+use Rattle.leaf.specs.Leaf.{Leaf, Right, occ_in, view}
+use Rattle.leaf.specs.Search.{lowest_vacant, count}
 use Rattle.steps.specs.Model.{is_line_write, is_word_write}
 use Rattle.steps.specs.declared.Step.{Step}
 use Rattle.steps.specs.Encoding.{written}
 use Rattle.lists.specs.Lists.{head_in, far_put, put_at, put_found, plain_put}
 use Rattle.lists.specs.FullLists.{moved_slots, goes_up, after, split_list, put_below, full_put}
 use Rattle.lists.specs.Served.{lines_of, words_of}
+use Rattle.lists.proofs.FullPut.{moved}
 use Rattle.lists.proofs.Parts.{total_append}
 use Rattle.lists.proofs.Sizes.{by_slot_lem, near_size, near_words, far_lines, far_words, split_length, split_lines, split_words}
 use Rattle.emit.specs.Appended.{Wrote, appended_start}
+use Rattle.split.specs.Full.{FullPut, HasLeaf}
 use Rattle.writing.specs.Writing.{outcome, made_as}
 use Rattle.writing.specs.declared.Made.{Made}
-use Rattle.writing.specs.declared.Made.TheVariants.{Steps}
-use Rattle.writing.specs.PutCounts.{full_lines, full_made, plain_lines, plain_made}
+use Rattle.writing.specs.PutCounts.{counts, full_lines, plain_lines}
 
 -- ---- a list told by its number of steps, its line writes and its word writes
 
 told : (l : List Step) (list : List ℕ) (n lines words : ℕ) → n ≡ length l → lines ≡ lines_of l → words ≡ words_of l
-    → made_as (Steps n (record { 0 = lines }) (record { 0 = words })) (written l list) ≡ outcome 0 l list
+    → made_as (Ok (counts n lines words)) (written l list) ≡ outcome 0 l list
 told l list n lines words a b c = λ i. record { answer = 0; steps = a i; lines = b i; words = c i; list = written l list }
 
 -- ---- a plain put: 5 steps into line 0, else at least 8; each line write has its fence
@@ -58,25 +59,19 @@ plain_at h L b s k v =
           })
     ]
 
-plain_told : (h : ℕ) (L : Leaf) (b s k v n : ℕ) (list : List ℕ) → n ≡ length (put_at h L b s k v)
-    → made_as (plain_made n) (written (put_at h L b s k v) list) ≡ outcome 0 (put_at h L b s k v) list
-plain_told h L b s k v n list e =
-    let z = plain_at h L b s k v in
-    let q : plain_lines n ≡ lines_of (put_at h L b s k v) = ap plain_lines e ∙ z.lines in
-    told (put_at h L b s k v) list n (plain_lines n) (n - 2 * plain_lines n) e q (omega (arith, e, q, z.words))
-
 module _ (h : ℕ) (L : Leaf) (b s k v n : ℕ) (list behind : List ℕ) (w : Wrote list 0 (put_at h L b s k v) behind n) where
-  pub plain_some : 4 ≤ n
+  pub plain_some : 5 ≤ n
   plain_some = omega (arith, w.1, (plain_at h L b s k v).some)
 
-  -- what is told of a plain put that was written, with the leaf as the image has it
-  pub plain_wrote : (M : Leaf) (m : Made) → L ≡ M → 112 ≤ length list → m ≡ plain_made n
-      → made_as m behind ≡ outcome 0 (put_at h M b s k v) list
-  plain_wrote M m e room told_as =
+  -- what is told of a plain put that was written
+  pub plain_wrote : (m : Made) → 112 ≤ length list → m ≡ counts n (plain_lines n) (n - (plain_lines n + plain_lines n))
+      → made_as (Ok m) behind ≡ outcome 0 (put_at h L b s k v) list
+  plain_wrote m room told_as =
       let P = put_at h L b s k v in
-      (λ i. made_as (told_as i) ((w.0 ∙ appended_start P list (omega (arith, w.1, w.2))) i))
-      ∙ plain_told h L b s k v n list w.1
-      ∙ ap (λ (N : Leaf). outcome 0 (put_at h N b s k v) list) e
+      let z = plain_at h L b s k v in
+      let q : plain_lines n ≡ lines_of P = ap plain_lines w.1 ∙ z.lines in
+      ap₂ (λ (x : Made) (y : List ℕ). made_as (Ok x) y) told_as (w.0 ∙ appended_start P list (omega (arith, w.1, w.2)))
+      ∙ told P list n (plain_lines n) (n - (plain_lines n + plain_lines n)) w.1 q (omega (arith, w.1, q, z.words))
 
 -- ---- a put into a full leaf: 42 steps of the split, 6 of them line writes and 2 fences, and the plain put that may follow
 
@@ -142,15 +137,21 @@ module _ (w : ℕ → ℕ) (b c k v : ℕ) (seven : length (moved_slots (view w 
       words : words_of (S ++ B) ≡ words_of S + words_of B
       words = total_append is_word_write S B
 
-  module _ (n : ℕ) (is : n ≡ length (full_put w b c k v)) where
-    pub full_some : 42 ≤ n
-    full_some = omega (arith, is, full_counts.some)
+-- what is told of a put into a full leaf that was written
+module _ (w : ℕ → ℕ) (h : ℕ) (L : Leaf) (b c k v n : ℕ) (list behind : List ℕ) (wrote : FullPut h L b c k v list behind n)
+    (has : HasLeaf h L b c w) (right : Right L) (full : count L ≡ 14) where
+  seven : length (moved_slots (view w b)) ≡ 7
+  seven = ap (λ (M : Leaf). length (moved_slots M)) has.leaf ∙ (moved L right full).seven
 
-    pub full_told : (m : Made) (list behind : List ℕ) → behind ≡ written (full_put w b c k v) list → m ≡ full_made n
-        → made_as m behind ≡ outcome 0 (full_put w b c k v) list
-    full_told m list behind e told_as =
-        let z = full_counts in
-        let q : full_lines n ≡ lines_of (full_put w b c k v) = ap full_lines is ∙ z.lines in
-        (λ i. made_as (told_as i) (e i))
-        ∙ told (full_put w b c k v) list n (full_lines n) (n - (2 * full_lines n - 4)) is q
-        (omega (arith, is, q, z.words, z.more, z.some))
+  pub full_some : 42 ≤ n
+  full_some = omega (arith, (wrote w has).1, (full_counts w b c k v seven).some)
+
+  pub full_wrote : (m : Made) → m ≡ counts n (full_lines n) (n - (full_lines n + (full_lines n - 4)))
+      → made_as (Ok m) behind ≡ outcome 0 (full_put w b c k v) list
+  full_wrote m told_as =
+      let z = full_counts w b c k v seven in
+      let is = (wrote w has).1 in
+      let q : full_lines n ≡ lines_of (full_put w b c k v) = ap full_lines is ∙ z.lines in
+      ap₂ (λ (x : Made) (y : List ℕ). made_as (Ok x) y) told_as (wrote w has).0
+      ∙ told (full_put w b c k v) list n (full_lines n) (n - (full_lines n + (full_lines n - 4))) is q
+      (omega (arith, is, q, z.words, z.more, z.some))

@@ -1,5 +1,6 @@
 -- Each answer of put, from the tests that led to it.
-use Rattle.std.specs.Prelude.{◌≡◌, Bool, true, false, cond, List, [], ◌∷◌, ◌≢◌, ℕ, ◌≤◌, ◌<◌, eqb, length}
+use Rattle.std.specs.Prelude.{◌≡◌, Bool, true, false, cond, List, [], ◌∷◌, ◌≢◌, ℕ, eqb, length, Option, Some, None, Err, is_some}
+use Rattle.std.specs.Option.{unwrap_or}
 use Rattle.std.proofs.Math.Path.{refl}
 use Rattle.std.proofs.Common.{sym, ap, ◌∙◌, subst, arith, eq-eqb, ne_eqb, eqb-true}
 use Rattle.std.proofs.Math.Bool.{not}
@@ -9,14 +10,14 @@ use Rattle.words.specs.Bools.{both, by_test, differ, not_so}
 use Rattle.words.specs.Below.{count_below}
 use Rattle.words.specs.BelowLaws.{count_all, count_less}
 use Rattle.leaf.specs.Leaf.{Right, occ_in, view}
-use Rattle.leaf.specs.Search.{lowest, lowest_vacant, count}
+use Rattle.leaf.specs.Search.{lowest, lowest_vacant, slot_of, count}
 use Rattle.leaf.proofs.SearchLaws.{lowest_same, vacant_at, vacant_none}
-use Rattle.leaf.specs.declared.search.Slot.{Slot}
-use Rattle.leaf.specs.declared.search.Slot.TheVariants.{At, Missing}
 use Rattle.steps.specs.declared.Step.{Step}
+use Rattle.steps.specs.declared.refusal.Refusal.{Refusal}
+use Rattle.steps.specs.declared.refusal.Refusal.TheVariants.{Present}
 use Rattle.steps.specs.Refusals.{answer, bad_image}
 use Rattle.survey.specs.Marks.{is_in}
-use Rattle.survey.specs.Walk.{surveyed}
+use Rattle.survey.specs.Walk.{State, surveyed}
 use Rattle.image.specs.Chain.{All, Starts}
 use Rattle.image.specs.ChainLaws.{Good}
 use Rattle.image.proofs.ChainLaws.{all_split, sound_good}
@@ -27,11 +28,10 @@ use Rattle.index.specs.Reading.{entries_in, is_none}
 use Rattle.index.proofs.SoundTest.{Surveyed, survey_sound, sound_chain, noted_around}
 use Rattle.lists.specs.Lists.{head_in}
 use Rattle.lists.specs.FullLists.{put_into, put_list}
-use Rattle.writing.specs.Writing.{target_of, place_of, is_among, free_of, outcome, made_as, is_missing}
-use Rattle.writing.specs.Writing.{is_full, block_or0, put_of}
-use Rattle.writing.proofs.ChangeLaws.{noted_value, bad_image_lem, short_list_lem, unsound, accepted}
-use Rattle.writing.specs.declared.Made.TheVariants.{BadImage, ShortList, Unsound}
-use Rattle.writing.specs.PutLaws.{put_by}
+use Rattle.writing.specs.Writing.{target_of, is_among, free_of, Outcome, outcome, made_as, is_full, put_of}
+use Rattle.writing.specs.Alike.{RefusedAlike, Walked}
+use Rattle.writing.proofs.AlikeLaws.{refused_told, others_left}
+use Rattle.writing.proofs.ChangeLaws.{target_is, value_is}
 
 -- ---- the lowest free block
 
@@ -94,62 +94,72 @@ module _ (l : List ℕ) (k : ℕ) (fine : bad_image (length l) ≡ false) (e : (
 
 -- ---- a full leaf is one without a vacant slot
 
-pub full_vacant : (w : ℕ → ℕ) (b : ℕ) → is_full (view w b) ≡ is_missing (lowest_vacant (occ_in (head_in w b)) 14)
+pub full_vacant : (w : ℕ → ℕ) (b : ℕ) → is_full (view w b) ≡ is_none (lowest_vacant (occ_in (head_in w b)) 14)
 unfolding view count
 full_vacant w b = by (lowest_vacant (occ_in (head_in w b)) 14) refl
   where
-    by : (x : Slot) → lowest_vacant (occ_in (head_in w b)) 14 ≡ x → eqb (count_below (occ_in (head_in w b)) 14) 14 ≡ is_missing x
-    by (At s) e =
+    by : (x : Option ℕ) → lowest_vacant (occ_in (head_in w b)) 14 ≡ x → eqb (count_below (occ_in (head_in w b)) 14) 14 ≡ is_none x
+    by (Some s) e =
         let r = vacant_at (occ_in (head_in w b)) 14 s e in
         ne_eqb (count_below (occ_in (head_in w b)) 14) 14 (λ q. omega (arith, count_less (occ_in (head_in w b)) 14 s r.0 r.1))
-    by Missing e =
+    by None e =
         eq-eqb (count_below (occ_in (head_in w b)) 14) 14 (count_all (occ_in (head_in w b)) 14 (vacant_none (occ_in (head_in w b)) 14 e))
 
 -- a block that is out of the set is none that is in it
-pub out_apart : (n b c : ℕ) → is_in n b ≡ true → not (is_in n c) ≡ true → b ≢ c
+pub out_apart : (n : List ℕ) (b c : ℕ) → is_in n b ≡ true → not (is_in n c) ≡ true → b ≢ c
 out_apart n b c has lacks = λ q. differ (sym lacks ∙ ap not (ap (is_in n) (sym q) ∙ has))
 
 -- ---- put, by the slot of the key, the lowest vacant slot and the lowest free block
 
-module _ (l list : List ℕ) (k v : ℕ) where
-  abbrev rows : List (ℕ × Bool)
-  rows = (4, not (is_none (lookup k (entries_in l)))) ∷ (6, both (is_full (leaves l (target_of l k))) (is_missing (free_of l))) ∷ []
+pub put_refused : {l list : List ℕ} {refusal : Refusal} → RefusedAlike l list refusal → (k v : ℕ) → made_as (Err refusal) list ≡ put_of l list k v
+unfolding put_of
+put_refused {l} {list} {refusal} r k v =
+    refused_told l list refusal
+    ((4, not (is_none (lookup k (entries_in l)))) ∷ (6, both (is_full (leaves l (target_of l k))) (is_none (free_of l))) ∷ [])
+    (put_list (reads l) (target_of l k) (unwrap_or (free_of l) 0) k v)
+    r
 
-  abbrev made : List Step
-  made = put_list (reads l) (target_of l k) (block_or0 (free_of l)) k v
+module _ {l list : List ℕ} {k : ℕ} {w : State} (W : Walked l list k w) where
+  ended : (surveyed (leaves l) (blocks l) k).stage ≡ 1
+  ended = sym (ap (λ (s : State). s.stage) W.is) ∙ W.ended
 
-  pub put_bad : bad_image (length l) ≡ true → made_as BadImage list ≡ put_of l list k v
-  unfolding put_of
-  put_bad e = bad_image_lem l list k rows made e
+  free_is : lowest (λ b. not (w.met b)) (blocks l) 0 ≡ free_of l
+  free_is = ap (λ (s : State). lowest (λ b. not (s.met b)) (blocks l) 0) W.is ∙ noted_free l k W.good ended
 
-  module _ (fine : bad_image (length l) ≡ false) where
-    pub put_short : length list < 112 → made_as ShortList list ≡ put_of l list k v
-    unfolding put_of
-    put_short h = short_list_lem l list k rows made fine h
+  pub put_right : Right (leaves l w.target)
+  put_right = subst (λ (b : ℕ). Right (leaves l b)) (sym (ap (λ (s : State). s.target) W.is)) (target_right l k W.good ended)
 
-    module _ (room : 112 ≤ length list) where
-      pub put_unsound : ((surveyed (leaves l) (blocks l) k).stage ≡ 1 → ⊥) → made_as Unsound list ≡ put_of l list k v
-      unfolding put_of
-      put_unsound ne = unsound l list k rows made fine room ne
+  pub put_met : w.met w.target ≡ true
+  put_met = ap (λ (s : State). s.met s.target) W.is ∙ target_met l k W.good ended
 
-      pub put_judged : (surveyed (leaves l) (blocks l) k).stage ≡ 1
-          → put_by (place_of l k) (lowest_vacant (occ_in (head_in (reads l) (target_of l k))) 14) (free_of l) (reads l) (target_of l k) k v list
-          ≡ put_of l list k v
-      unfolding put_of put_list
-      put_judged e =
-          by (place_of l k) (lowest_vacant (occ_in (head_in (reads l) (target_of l k))) 14) (free_of l)
-          ∙ (λ i. outcome
-          (answer ((4, not (is_none (noted_value l k fine e i))) ∷
-          (6, both (sym (full_vacant (reads l) (target_of l k)) i) (is_missing (free_of l))) ∷ []))
-          made list)
-          ∙ accepted l list k rows made fine room e
-        where
-          by : (x y z : Slot)
-              → put_by x y z (reads l) (target_of l k) k v list
-              ≡ outcome (answer ((4, not (is_none (value_at (leaves l (target_of l k)) x))) ∷ (6, both (is_missing y) (is_missing z)) ∷ []))
-              (put_into y (reads l) (target_of l k) (block_or0 z) k v)
-              list
-          by (At t) y z = refl
-          by Missing (At s) z = refl
-          by Missing Missing (At c) = refl
-          by Missing Missing Missing = refl
+  -- what is answered and made, by the three
+  abbrev by : Option ℕ → Option ℕ → Option ℕ → ℕ → ℕ → Outcome
+  by x y z b v =
+      outcome (answer ((4, not (is_none (value_at (leaves l (target_of l k)) x))) ∷ (6, both (is_none y) (is_none z)) ∷ []))
+      (put_into y (reads l) b (unwrap_or z 0) k v)
+      list
+
+  pub put_by : (v : ℕ) (x y z : Option ℕ) → slot_of (leaves l w.target) k ≡ x
+      → lowest_vacant (occ_in (head_in (reads l) w.target)) 14 ≡ y → lowest (λ b. not (w.met b)) (blocks l) 0 ≡ z
+      → by x y z w.target v ≡ put_of l list k v
+  unfolding put_of put_list
+  put_by v x y z ex ey ez =
+      let vacant : y ≡ lowest_vacant (occ_in (head_in (reads l) (target_of l k))) 14 =
+      sym ey ∙ ap (λ (b : ℕ). lowest_vacant (occ_in (head_in (reads l) b)) 14) (target_is W) in
+      let free : z ≡ free_of l = sym ez ∙ free_is in
+      (λ i. by x (vacant i) (free i) (target_is W i) v)
+      ∙ (λ i. outcome
+      (answer ((4, not (is_none (value_is W x ex i))) ∷
+      (6, both (sym (full_vacant (reads l) (target_of l k)) i) (is_none (free_of l))) ∷ []))
+      made list)
+      ∙ ap (λ (n : ℕ). outcome n made list)
+      (others_left W
+      ((4, not (is_none (lookup k (entries_in l)))) ∷
+      (6, both (is_full (leaves l (target_of l k))) (is_none (free_of l))) ∷ []))
+    where
+      made : List Step
+      made = put_list (reads l) (target_of l k) (unwrap_or (free_of l) 0) k v
+
+  pub put_present : (v : ℕ) (x : Option ℕ) → slot_of (leaves l w.target) k ≡ x → is_some x ≡ true → made_as (Err Present) list ≡ put_of l list k v
+  put_present v (Some t) e h = put_by v (Some t) _ _ e refl refl
+  put_present v None e h = differ (sym h)

@@ -1,5 +1,4 @@
 -- To believe: Writing (what put, set and del answer and make). The others say what the calls' parts answer and count.
 pub mod Writing
-pub mod ChangeLaws
-pub mod PutLaws
+pub mod Alike
 pub mod PutCounts

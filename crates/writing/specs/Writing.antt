@@ -1,12 +1,12 @@
 -- What put, set and del answer and what they leave of the list, for all inputs. To be believed: this is their whole contract.
-use Rattle.std.specs.Prelude.{Bool, true, false, cond, not, List, [], ◌∷◌, ℕ, ltb, eqb, length}
+use Rattle.std.specs.Prelude.{Bool, true, false, cond, not, List, [], ◌∷◌, ℕ, ltb, eqb, length, Option, Some, None, Result, Ok, Err}
+use Rattle.std.specs.Option.{unwrap_or}
 use Rattle.words.specs.Words.{reads}
 use Rattle.words.specs.Bools.{both}
 use Rattle.leaf.specs.Leaf.{Leaf}
 use Rattle.leaf.specs.Search.{lowest, slot_of, count}
-use Rattle.leaf.specs.declared.search.Slot.{Slot}
-use Rattle.leaf.specs.declared.search.Slot.TheVariants.{At, Missing}
-use Rattle.steps.specs.Refusals.{answer, bad_image}
+use Rattle.steps.specs.Refusals.{answer, bad_image, number_of}
+use Rattle.steps.specs.declared.refusal.Refusal.{Refusal}
 use Rattle.steps.specs.declared.Step.{Step}
 use Rattle.steps.specs.Model.{line_writes, word_writes}
 use Rattle.steps.specs.Encoding.{steps_of, written}
@@ -17,7 +17,6 @@ use Rattle.index.specs.Reading.{is_sound, chain_of, entries_in, is_none}
 use Rattle.lists.specs.Lists.{set_list, del_list}
 use Rattle.lists.specs.FullLists.{put_list}
 use Rattle.writing.specs.declared.Made.{Made}
-use Rattle.writing.specs.declared.Made.TheVariants.{Steps, BadImage, ShortList, Unsound, Present, Absent, Full}
 
 -- ---- where a key belongs
 
@@ -29,7 +28,7 @@ target_of l k = target_from (leaves l) k 0 (chain_of l)
 abbrev pub before_of : List ℕ → ℕ → ℕ
 before_of l k = before_from (leaves l) k 0 0 (chain_of l)
 
-abbrev pub place_of : List ℕ → ℕ → Slot
+abbrev pub place_of : List ℕ → ℕ → Option ℕ
 place_of l k = slot_of (leaves l (target_of l k)) k
 
 -- "take the lowest block not in the chain"
@@ -37,7 +36,7 @@ abbrev pub is_among : ℕ → List ℕ → Bool
 is_among b [] = false
 is_among b (c ∷ cs) = cond (eqb c b) true (is_among b cs)
 
-abbrev pub free_of : List ℕ → Slot
+abbrev pub free_of : List ℕ → Option ℕ
 free_of l = lowest (λ b. not (is_among b (chain_of l))) (blocks l) 0
 
 -- ---- what a call tells and leaves
@@ -61,14 +60,9 @@ outcome n made list = record {
 }
 
 -- "When an answer is an enum, a definition gives this paper's number and values for each of its cases": beside the list as it is left
-abbrev pub made_as : Made → List ℕ → Outcome
-made_as (Steps n lines words) list = record { answer = 0; steps = n; lines = lines.0; words = words.0; list = list }
-made_as BadImage list = record { answer = 1; steps = 0; lines = 0; words = 0; list = list }
-made_as ShortList list = record { answer = 2; steps = 0; lines = 0; words = 0; list = list }
-made_as Unsound list = record { answer = 3; steps = 0; lines = 0; words = 0; list = list }
-made_as Present list = record { answer = 4; steps = 0; lines = 0; words = 0; list = list }
-made_as Absent list = record { answer = 5; steps = 0; lines = 0; words = 0; list = list }
-made_as Full list = record { answer = 6; steps = 0; lines = 0; words = 0; list = list }
+abbrev pub made_as : Result Made Refusal → List ℕ → Outcome
+made_as (Ok m) list = record { answer = 0; steps = m.steps; lines = m.line_writes.0; words = m.word_writes.0; list = list }
+made_as (Err refusal) list = record { answer = number_of refusal; steps = 0; lines = 0; words = 0; list = list }
 
 -- ---- the calls. "Order: 1, 2, 8, 3, 4, 5, 6 as they apply"
 
@@ -80,9 +74,9 @@ short_list list = ltb (length list) 112
 abbrev pub change_table : List ℕ → List ℕ → ℕ → List (ℕ × Bool)
 change_table l list k = (1, bad_image (length l)) ∷ (2, short_list list) ∷ (3, not (is_sound l)) ∷ (5, is_none (lookup k (entries_in l))) ∷ []
 
-abbrev pub at_slot : Slot → (ℕ → List Step) → List Step
-at_slot (At s) f = f s
-at_slot Missing f = []
+abbrev pub at_slot : Option ℕ → (ℕ → List Step) → List Step
+at_slot (Some s) f = f s
+at_slot None f = []
 
 unfoldable pub set_of : List ℕ → List ℕ → ℕ → ℕ → Outcome
 set_of l list k v = outcome (answer (change_table l list k)) (at_slot (place_of l k) (λ s. set_list (target_of l k) s v)) list
@@ -92,22 +86,13 @@ del_of l list k =
     outcome (answer (change_table l list k)) (at_slot (place_of l k) (λ s. del_list (reads l) (before_of l k) (target_of l k) s)) list
 
 -- 4: "put: key present"; 6: "put: target full and all N blocks chained"
-abbrev pub is_missing : Slot → Bool
-is_missing (At s) = false
-is_missing Missing = true
-
 abbrev pub is_full : Leaf → Bool
 is_full L = eqb (count L) L.size
 
 abbrev pub put_table : List ℕ → List ℕ → ℕ → List (ℕ × Bool)
 put_table l list k =
     (1, bad_image (length l)) ∷ (2, short_list list) ∷ (3, not (is_sound l)) ∷ (4, not (is_none (lookup k (entries_in l))))
-    ∷ (6, both (is_full (leaves l (target_of l k))) (is_missing (free_of l))) ∷ []
-
--- the free block, where one is needed
-abbrev pub block_or0 : Slot → ℕ
-block_or0 (At c) = c
-block_or0 Missing = 0
+    ∷ (6, both (is_full (leaves l (target_of l k))) (is_none (free_of l))) ∷ []
 
 unfoldable pub put_of : List ℕ → List ℕ → ℕ → ℕ → Outcome
-put_of l list k v = outcome (answer (put_table l list k)) (put_list (reads l) (target_of l k) (block_or0 (free_of l)) k v) list
+put_of l list k v = outcome (answer (put_table l list k)) (put_list (reads l) (target_of l k) (unwrap_or (free_of l) 0) k v) list

@@ -7,21 +7,19 @@ ghost use Rattle.image.specs.Image.{leaves};
 ghost use Rattle.lists.specs.Lists.{head_in};
 
 use header::Header;
-use leaf::place::Leaf;
-use leaf::search::{Slot, find_slot};
+use leaf::part::leaf_part;
+use leaf::search::find_slot;
 
 pub fn head_in(image: &[u8], block: u64) -> Header
     requires { 256 * block + 256 ≤ length image.now }
     ensures { bits_of result ≡ head_in (reads image.now) block }
 {
-    Header::read(image, Leaf::BYTES * (block as usize))
+    Header::read(leaf_part(image, block), 0)
 }
 
-pub fn slot_in(image: &[u8], block: u64, key: u64) -> Slot
+pub fn slot_in(image: &[u8], block: u64, key: u64) -> Option<usize>
     requires { 256 * block + 256 ≤ length image.now }
     ensures { (result ≡ slot_of (leaves image.now block) key) × Within 14 result }
 {
-    let a = Leaf::BYTES * (block as usize);
-    let e = a + Leaf::BYTES;
-    find_slot(&image[a..e], key)
+    find_slot(leaf_part(image, block), key)
 }

@@ -2,63 +2,66 @@
 // the word writes, or what a sentence of the file `meaning` says.
 #![tactic(auto)]
 
-use index::find::Found;
 use index::recovery::Recovered;
 use std::io;
-use steps::LIST_ROOM;
+use steps::{LIST_ROOM, Refusal};
+use telling::{end_line, tell};
 use writing::Made;
 
-fn tell(rt: &impl Print, n: u64) -> io::Result<()> {
-    print!(rt; "{n} ")
-}
-
-fn end_line(rt: &impl Print) -> io::Result<()> {
-    println!(rt)
-}
-
-fn refused(rt: &impl Print, n: u64) -> io::Result<u64> {
-    tell(rt, n)?;
-    Ok(0)
-}
-
 // Tells the answer, and hands the steps on.
-fn tell_made(rt: &impl Print, made: Made) -> io::Result<u64> {
+fn tell_made(rt: &impl Print, made: Result<Made, Refusal>) -> io::Result<u64> {
     match made {
-        Made::Steps(n, lines, words) => {
+        Ok(made) => {
             tell(rt, 0)?;
-            tell(rt, n)?;
-            tell(rt, lines.0)?;
-            tell(rt, words.0)?;
-            Ok(n)
+            tell(rt, made.steps)?;
+            tell(rt, made.line_writes.0)?;
+            tell(rt, made.word_writes.0)?;
+            Ok(made.steps)
         }
-        Made::BadImage => refused(rt, 1),
-        Made::ShortList => refused(rt, 2),
-        Made::Unsound => refused(rt, 3),
-        Made::Present => refused(rt, 4),
-        Made::Absent => refused(rt, 5),
-        Made::Full => refused(rt, 6),
+        Err(refusal) => {
+            tell(rt, u64::from(refusal))?;
+            Ok(0)
+        }
     }
 }
 
-fn put(rt: &impl Print, image: &mut [u8], key: u64) -> io::Result<()> {
+// Tells what a call answers, and runs the list that it makes.
+fn make<F>(rt: &impl Print, image: &mut [u8], call: F) -> io::Result<[u64; LIST_ROOM]>
+where
+    F: FnOnce(&[u8], &mut [u64]) -> Result<Made, Refusal>,
+    requires { F.IsAlwaysCallable call }
+{
     let mut list = [0u64; LIST_ROOM];
-    let n = tell_made(rt, writing::put::put(image, &mut list, key, 7))?;
-    machine::run(image, &list, n as usize);
+    let n = tell_made(rt, call(image, &mut list))?;
+    let _ = machine::run(image, &list, n as usize);
+    Ok(list)
+}
+
+fn put(rt: &impl Print, image: &mut [u8], key: u64) -> io::Result<()> {
+    make(
+        rt,
+        image,
+        |image, list| writing::put::put(image, list, key, 7),
+    )?;
     end_line(rt)
 }
 
 fn set(rt: &impl Print, image: &mut [u8], key: u64, value: u64) -> io::Result<()> {
-    let mut list = [0u64; LIST_ROOM];
-    let n = tell_made(rt, writing::change::set(image, &mut list, key, value))?;
-    machine::run(image, &list, n as usize);
+    make(
+        rt,
+        image,
+        |image, list| writing::change::set(image, list, key, value),
+    )?;
     end_line(rt)
 }
 
 // The first step is told too: the place of its store and the word stored.
 fn del(rt: &impl Print, image: &mut [u8], key: u64) -> io::Result<()> {
-    let mut list = [0u64; LIST_ROOM];
-    let n = tell_made(rt, writing::change::del(image, &mut list, key))?;
-    machine::run(image, &list, n as usize);
+    let list = make(
+        rt,
+        image,
+        |image, list| writing::change::del(image, list, key),
+    )?;
     tell(rt, list[0])?;
     tell(rt, list[1])?;
     end_line(rt)
@@ -66,10 +69,8 @@ fn del(rt: &impl Print, image: &mut [u8], key: u64) -> io::Result<()> {
 
 fn find(rt: &impl Print, image: &[u8], key: u64) -> io::Result<()> {
     match index::find::find(image, key) {
-        Found::Value(v) => tell(rt, v)?,
-        Found::BadImage => tell(rt, 1)?,
-        Found::Unsound => tell(rt, 3)?,
-        Found::Absent => tell(rt, 5)?,
+        Ok(v) => tell(rt, v)?,
+        Err(refusal) => tell(rt, u64::from(refusal))?,
     }
     end_line(rt)
 }
@@ -79,46 +80,29 @@ fn leaves(rt: &impl Print, image: &[u8]) -> io::Result<()> {
     let mut smallest = [0u64; 2];
     let mut blocks = [9u64; 2];
     match index::recovery::recovery(image, &mut smallest, &mut blocks) {
-        Recovered::Leaves(leaves, entries) => {
+        Ok(Recovered { leaves, entries }) => {
             tell(rt, leaves)?;
             tell(rt, entries)?;
         }
-        Recovered::BadImage => tell(rt, 1)?,
-        Recovered::ShortBuffer => tell(rt, 8)?,
-        Recovered::Unsound => tell(rt, 3)?,
+        Err(refusal) => tell(rt, u64::from(refusal))?,
     }
     tell(rt, blocks[0])?;
     tell(rt, blocks[1])?;
     end_line(rt)
 }
 
-fn put_1_to_7(rt: &impl Print, image: &mut [u8]) -> io::Result<()> {
-    put(rt, image, 1)?;
-    put(rt, image, 2)?;
-    put(rt, image, 3)?;
-    put(rt, image, 4)?;
-    put(rt, image, 5)?;
-    put(rt, image, 6)?;
-    put(rt, image, 7)
-}
-
-fn put_8_to_14(rt: &impl Print, image: &mut [u8]) -> io::Result<()> {
-    put(rt, image, 8)?;
-    put(rt, image, 9)?;
-    put(rt, image, 10)?;
-    put(rt, image, 11)?;
-    put(rt, image, 12)?;
-    put(rt, image, 13)?;
-    put(rt, image, 14)
+fn put_all(rt: &impl Print, image: &mut [u8], first: u64, last: u64) -> io::Result<()> {
+    for key in first..=last {
+        put(rt, image, key)?;
+    }
+    Ok(())
 }
 
 // "P2 Keys 1 to 14 put in order (..). P4 Then put 15", the second leaf deleted entry by entry, the last by "P7", and the freed block
 // taken again.
 fn above(rt: &impl Print) -> io::Result<()> {
     let mut image = [0u8; 512];
-    put_1_to_7(rt, &mut image)?;
-    put_8_to_14(rt, &mut image)?;
-    put(rt, &mut image, 15)?;
+    put_all(rt, &mut image, 1, 15)?;
     leaves(rt, &image)?;
     find(rt, &image, 15)?;
     put(rt, &mut image, 15)?;
@@ -128,27 +112,21 @@ fn above(rt: &impl Print) -> io::Result<()> {
     del(rt, &mut image, 16)?;
     delete_second(rt, &mut image)?;
     leaves(rt, &image)?;
-    put_8_to_14(rt, &mut image)?;
-    put(rt, &mut image, 15)?;
+    put_all(rt, &mut image, 8, 15)?;
     leaves(rt, &image)
 }
 
 fn delete_second(rt: &impl Print, image: &mut [u8]) -> io::Result<()> {
-    del(rt, image, 8)?;
-    del(rt, image, 9)?;
-    del(rt, image, 10)?;
-    del(rt, image, 11)?;
-    del(rt, image, 12)?;
-    del(rt, image, 13)?;
-    del(rt, image, 14)?;
-    del(rt, image, 15)
+    for key in 8..=15 {
+        del(rt, image, key)?;
+    }
+    Ok(())
 }
 
 // "P5 Put 0 in its place."
 fn below(rt: &impl Print) -> io::Result<()> {
     let mut image = [0u8; 512];
-    put_1_to_7(rt, &mut image)?;
-    put_8_to_14(rt, &mut image)?;
+    put_all(rt, &mut image, 1, 14)?;
     put(rt, &mut image, 0)?;
     find(rt, &image, 0)?;
     leaves(rt, &image)
@@ -157,9 +135,7 @@ fn below(rt: &impl Print) -> io::Result<()> {
 // "P6 The same with N = 1."
 fn one_block(rt: &impl Print) -> io::Result<()> {
     let mut image = [0u8; 256];
-    put_1_to_7(rt, &mut image)?;
-    put_8_to_14(rt, &mut image)?;
-    put(rt, &mut image, 15)?;
+    put_all(rt, &mut image, 1, 15)?;
     leaves(rt, &image)
 }
 
@@ -172,17 +148,9 @@ fn rooms(rt: &impl Print) -> io::Result<()> {
     end_line(rt)?;
     let mut list = [5u64; 112];
     tell_made(rt, writing::put::put(&image, &mut list, 1, 7))?;
-    tell(rt, list[0])?;
-    tell(rt, list[1])?;
-    tell(rt, list[2])?;
-    tell(rt, list[3])?;
-    tell(rt, list[4])?;
-    tell(rt, list[5])?;
-    tell(rt, list[6])?;
-    tell(rt, list[7])?;
-    tell(rt, list[8])?;
-    tell(rt, list[9])?;
-    tell(rt, list[10])?;
+    for word in &list[..11] {
+        tell(rt, *word)?;
+    }
     end_line(rt)
 }
 

@@ -1,0 +1,7 @@
+use Rattle.header.specs.Header.{bits_of}
+use Rattle.leaf.specs.Leaf.{leaf_in}
+use Rattle.emit.specs.CopyLaws.{FilledTo}
+use Rattle.emit.proofs.plain.filled_head.Given as goal
+
+abbrev pub invariant-loop-t : goal.invariant-loop-t
+invariant-loop-t l = FilledTo (bits_of l.head) (leaf_in l.leaf) l.s l.key l.t (bits_of l.filled) l.from

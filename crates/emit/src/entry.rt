@@ -1,0 +1,22 @@
+// A key with its value: what a slot of a leaf holds, and what a put brings.
+ghost use Rattle.std.specs.Prelude.{◌≡◌, ◌≤◌, ◌<◌, length};
+ghost use Rattle.leaf.specs.Leaf.{leaf_in};
+
+use leaf::search::{key_at, value_at};
+
+#[derive(Clone, Copy)]
+pub struct Entry {
+    pub key: u64,
+    pub value: u64,
+}
+
+// The entry of slot s.
+pub fn entry_at(leaf: &[u8; 256], s: usize) -> Entry
+    requires { (s < 14) }
+    ensures { (result.key ≡ (leaf_in leaf.now).key s) × (result.value ≡ (leaf_in leaf.now).val s) }
+{
+    Entry {
+        key: key_at(leaf, s),
+        value: value_at(leaf, s),
+    }
+}

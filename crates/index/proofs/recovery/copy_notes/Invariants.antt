@@ -1,0 +1,6 @@
+use Rattle.std.proofs.Common.{◌≡◌}
+use Rattle.std.proofs.Math.Seq.{paste}
+use Rattle.index.proofs.recovery.copy_notes.Given as goal
+
+abbrev pub invariant-loop-i : goal.invariant-loop-i
+invariant-loop-i l = l.blocks ≡ paste l.fn.blocks 0 l.numbers l.i
