@@ -1,7 +1,9 @@
 // A key with its value: what a slot of a leaf holds, and what a put brings.
-ghost use Rattle.std.specs.Prelude.{◌≡◌, ◌≤◌, ◌<◌, length};
+ghost use Rattle.std.specs.Prelude.{◌≡◌};
 ghost use Rattle.leaf.specs.Leaf.{leaf_in};
 
+use header::slot::Slot;
+use leaf::page::Page;
 use leaf::search::{key_at, value_at};
 
 #[derive(Clone, Copy)]
@@ -11,8 +13,7 @@ pub struct Entry {
 }
 
 // The entry of slot s.
-pub fn entry_at(leaf: &[u8; 256], s: usize) -> Entry
-    requires { (s < 14) }
+pub fn entry_at(leaf: &Page, s: Slot) -> Entry
     ensures { (result.key ≡ (leaf_in leaf.now).key s) × (result.value ≡ (leaf_in leaf.now).val s) }
 {
     Entry {

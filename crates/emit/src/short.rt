@@ -9,6 +9,7 @@ ghost use Rattle.lists.specs.Lists.{head_in, set_list, clear_list, unlink_list};
 ghost use Rattle.emit.specs.Appended.{appended};
 
 use header::Header;
+use header::slot::Slot;
 use leaf::place::Leaf;
 use machine::list::put_step;
 use steps::Step;
@@ -35,39 +36,39 @@ pub fn append_store(list: &mut [u64], at: usize, place: u64, value: u64)
 }
 
 #[tactic(auto, using(crate::specs::Appended::appended_start), unfolding(lists::specs::Lists::set_list))]
-pub fn write_set(list: &mut [u64], block: u64, s: u64, value: u64)
-    requires { (6 ≤ length list.old) × (block < 256) × (s < 14) }
+pub fn write_set(list: &mut [u64], block: u8, s: Slot, value: u64)
+    requires { 6 ≤ length list.old }
     ensures { list.new ≡ written (set_list block s value) list.old }
 {
     append_store(
         list,
         0,
-        Leaf::WORDS * block + Leaf::value_word(s as usize),
+        Leaf::WORDS * u64::from(block) + Leaf::value_word(s),
         value,
     );
 }
 
 // The header is that of the block in some image, whose list this is.
 #[tactic(auto, using(crate::specs::Appended::appended_start), unfolding(lists::specs::Lists::clear_list))]
-pub fn write_clear(list: &mut [u64], head: Header, block: u64, s: usize)
-    requires { (6 ≤ length list.old) × (block < 256) × (s < 14) }
+pub fn write_clear(list: &mut [u64], head: Header, block: u8, s: Slot)
+    requires { 6 ≤ length list.old }
     ensures { (w : ℕ → ℕ) → head_in w block ≡ bits_of head
         → list.new ≡ written (clear_list w block s) list.old }
 {
-    append_store(list, 0, Leaf::WORDS * block, head.clear(s).low);
+    append_store(list, 0, Leaf::WORDS * u64::from(block), head.clear(s).low);
 }
 
 // The header is that of the block before; `next` is the active sibling of the leaf that is taken out.
 #[tactic(auto, using(crate::specs::Appended::appended_start, header::proofs::HeaderLaws::alt_lt), unfolding(lists::specs::Lists::unlink_list))]
-pub fn write_unlink(list: &mut [u64], head: Header, before: u64, next: u64)
-    requires { (6 ≤ length list.old) × (before < 256) }
+pub fn write_unlink(list: &mut [u64], head: Header, before: u8, next: u64)
+    requires { 6 ≤ length list.old }
     ensures { (w : ℕ → ℕ) (block : ℕ) → head_in w before ≡ bits_of head → (view w block).next ≡ next
         → list.new ≡ written (unlink_list w before block) list.old }
 {
     append_store(
         list,
         0,
-        Leaf::WORDS * before + Leaf::sibling_word(head.alt()),
+        Leaf::WORDS * u64::from(before) + Leaf::sibling_word(head.alt()),
         next,
     );
 }

@@ -3,6 +3,7 @@
 #![tactic(auto)]
 
 pub mod bits;
+pub mod slot;
 
 ghost use Rattle.std.specs.Prelude.{◌≡◌, ◌+◌, ◌≤◌, ◌<◌, length};
 ghost use Rattle.words.specs.Below.{FirstBelow};
@@ -11,6 +12,7 @@ ghost use Rattle.header.specs.Header.{head_at, bits_of, is_occupied, fingerprint
 ghost use Rattle.header.specs.Header.{marked, cleared, flipped, fingerprint_of};
 
 use crate::bits::{get, lowest_one, replace};
+use crate::slot::Slot;
 
 #[derive(Clone, Copy)]
 pub struct Header {
@@ -31,27 +33,26 @@ impl Header {
     }
 
     #[tactic(auto, using(crate::proofs::HeaderCode::occupied_low))]
-    pub fn occupied(self, s: usize) -> bool
-        requires { s < 14 }
+    pub fn occupied(self, s: Slot) -> bool
         ensures { result ≡ is_occupied (bits_of self) s }
     {
-        get(self.low, s, 1) == 1
+        get(self.low, s.number(), 1) == 1
     }
 
     // The lowest occupied slot.
     #[tactic(auto, using(crate::proofs::HeaderCode::none_taken))]
-    pub fn first_taken(self) -> Option<usize>
+    pub fn first_taken(self) -> Option<Slot>
         ensures { FirstBelow (is_occupied (bits_of self)) 14 result }
     {
         let s = lowest_one(self.low)?;
-        if s < 14 { Some(s) } else { None }
+        if s < 14 { Some(Slot::new(s)) } else { None }
     }
 
     #[tactic(auto, using(crate::proofs::HeaderCode::fingerprint_low, crate::proofs::HeaderCode::fingerprint_high))]
-    pub fn fingerprint(self, s: usize) -> u8
-        requires { s < 14 }
+    pub fn fingerprint(self, s: Slot) -> u8
         ensures { result ≡ fingerprint_in (bits_of self) s }
     {
+        let s = s.number();
         if s < 6 {
             (get(self.low, 16 + 8 * s, 8) % 256) as u8
         } else {
@@ -75,10 +76,10 @@ impl Header {
     }
 
     #[tactic(auto, using(crate::proofs::HeaderCode::marked_low, crate::proofs::HeaderCode::marked_high))]
-    pub fn mark(self, s: usize, fp: u8) -> Header
-        requires { s < 14 }
+    pub fn mark(self, s: Slot, fp: u8) -> Header
         ensures { bits_of result ≡ marked (bits_of self) s fp }
     {
+        let s = s.number();
         let bits = replace(self.low, s, 1, 1);
         if s < 6 {
             Header {
@@ -94,12 +95,11 @@ impl Header {
     }
 
     #[tactic(auto, using(crate::proofs::HeaderCode::cleared_low))]
-    pub fn clear(self, s: usize) -> Header
-        requires { s < 14 }
+    pub fn clear(self, s: Slot) -> Header
         ensures { bits_of result ≡ cleared (bits_of self) s }
     {
         Header {
-            low: replace(self.low, s, 1, 0),
+            low: replace(self.low, s.number(), 1, 0),
             high: self.high,
         }
     }

@@ -6,13 +6,13 @@ ghost use Rattle.image.specs.Image.{leaves};
 ghost use Rattle.index.specs.Reading.{found_as, find_of};
 ghost use Rattle.index.specs.FindLaws.{found_at};
 
-use leaf::part::leaf_part;
+use leaf::page::{Page, page_of};
 use leaf::search::{find_slot, value_at};
 use machine::check_image;
 use steps::Refusal;
 use survey::walk::survey;
 
-fn find_leaf(leaf: &[u8; 256], key: u64) -> Result<u64, Refusal>
+fn find_leaf(leaf: &Page, key: u64) -> Result<u64, Refusal>
     ensures { result ≡ found_at (leaf_in leaf.now) (slot_of (leaf_in leaf.now) key) }
 {
     let Some(s) = find_slot(leaf, key) else {
@@ -26,5 +26,5 @@ pub fn find(image: &[u8], key: u64) -> Result<u64, Refusal>
 {
     check_image(image.len() as u64)?;
     let w = survey(image, key).sound()?;
-    find_leaf(leaf_part(image, w.target), key)
+    find_leaf(&page_of(image, w.end.target), key)
 }

@@ -8,7 +8,8 @@ ghost use Rattle.index.specs.Reading.{chain_from, listed_as, listing_is, listing
 ghost use Rattle.index.specs.Filling.{buffers, fill};
 ghost use Rattle.index.specs.ListingLaws.{entries_from, list_from};
 
-use leaf::part::leaf_part;
+use header::slot::Slot;
+use leaf::page::{Page, page_of};
 use leaf::place::Leaf;
 use leaf::search::{key_at, value_at};
 use machine::check_image;
@@ -18,7 +19,7 @@ use survey::along::next_block;
 use survey::walk::survey;
 
 // The entries of the slots of an order, from the start of two buffers of one length on, while there is room.
-fn list_slots(leaf: &[u8; 256], order: &[u8], keys: &mut [u64], values: &mut [u64]) -> usize
+fn list_slots(leaf: &Page, order: &[u8], keys: &mut [u64], values: &mut [u64]) -> usize
     requires { (length keys.old ≡ length values.old) × ((i : ℕ) → get_or order.now i 0 < 14) }
     ensures few { result ≤ length keys.old }
     ensures filled { buffers result keys.new values.new
@@ -26,7 +27,7 @@ fn list_slots(leaf: &[u8; 256], order: &[u8], keys: &mut [u64], values: &mut [u6
 {
     let n = order.len().min(keys.len());
     for (i, slot) in order[..n].iter().enumerate() {
-        let s = *slot as usize;
+        let s = Slot::new(*slot as usize);
         keys[i] = key_at(leaf, s);
         values[i] = value_at(leaf, s);
     }
@@ -34,7 +35,7 @@ fn list_slots(leaf: &[u8; 256], order: &[u8], keys: &mut [u64], values: &mut [u6
 }
 
 // The entries of a leaf with keys from `from` on.
-fn list_leaf(leaf: &[u8; 256], from: u64, keys: &mut [u64], values: &mut [u64]) -> usize
+fn list_leaf(leaf: &Page, from: u64, keys: &mut [u64], values: &mut [u64]) -> usize
     requires { Right (leaf_in leaf.now) × (length keys.old ≡ length values.old) }
     ensures few { result ≤ length keys.old }
     ensures filled { buffers result keys.new values.new
@@ -60,8 +61,8 @@ fn list_chain(image: &[u8], target: u64, from: u64, keys: &mut [u64], values: &m
     let mut lo = from;
     let mut n = 0;
     for _turn in 0..image.len() / Leaf::BYTES {
-        let leaf = leaf_part(image, block);
-        n += list_leaf(leaf, lo, &mut keys[n..], &mut values[n..]);
+        let leaf = page_of(image, block);
+        n += list_leaf(&leaf, lo, &mut keys[n..], &mut values[n..]);
         if n == room {
             return n;
         }
@@ -88,7 +89,7 @@ pub fn listing(
     let room = keys.len().min(values.len());
     let n = list_chain(
         image,
-        w.target,
+        w.end.target,
         from,
         &mut keys[..room],
         &mut values[..room],

@@ -28,12 +28,13 @@ fn check_buffers(n: usize, smallest: usize, numbers: usize) -> Result<(), Refusa
 
 // The notes of a walk written out: a block number is noted in a byte.
 fn copy_notes(leasts: &[u64], numbers: &[u8], smallest: &mut [u64], blocks: &mut [u64])
-    requires { (length leasts.now ≤ length smallest.old) × (length numbers.now ≤ length blocks.old) }
+    requires { (length leasts.now ≡ length numbers.now) × (length leasts.now ≤ length smallest.old)
+        × (length numbers.now ≤ length blocks.old) }
     ensures keys { smallest.new ≡ over leasts.now smallest.old }
     ensures numbers { blocks.new ≡ over numbers.now blocks.old }
 {
-    smallest[..leasts.len()].copy_from_slice(leasts);
     for (i, number) in numbers.iter().enumerate() {
+        smallest[i] = leasts[i];
         blocks[i] = u64::from(*number);
     }
 }
@@ -51,10 +52,10 @@ pub fn recovery(
     let mut leasts = [0u64; 256];
     let mut numbers = [0u8; 256];
     let w = survey_noting(image, 0, &mut leasts, &mut numbers).sound()?;
-    let n = w.leaves as usize;
+    let n = w.end.leaves as usize;
     copy_notes(&leasts[..n], &numbers[..n], smallest, blocks);
     Ok(Recovered {
-        leaves: w.leaves,
-        entries: w.entries,
+        leaves: w.end.leaves,
+        entries: w.end.entries,
     })
 }

@@ -1,6 +1,7 @@
 // The images that the cases start from.
 ghost use Rattle.std.specs.Prelude.{◌+◌, ◌*◌, ◌≤◌, ◌<◌, length};
 
+use header::slot::Slot;
 use header::{Header, fingerprint_of};
 use leaf::place::Leaf;
 
@@ -8,6 +9,7 @@ pub fn enter(image: &mut [u8], block: usize, s: usize, key: u64, value: u64)
     requires { (256 * block + 256 ≤ length image.old) × (s < 14) }
 {
     let a = Leaf::BYTES * block;
+    let s = Slot::new(s);
     let head = Header::read(image, a).mark(s, fingerprint_of(key));
     words::set_word(image, a + Leaf::key_place(s), key);
     words::set_word(image, a + Leaf::value_place(s), value);

@@ -1,5 +1,5 @@
 -- What is looked for in a leaf.
-use Rattle.std.specs.Prelude.{Bool, true, false, not, ℕ, zero, suc, ◌<◌, ltb, leb, eqb, Option, Some, None}
+use Rattle.std.specs.Prelude.{Bool, true, false, not, ℕ, zero, suc, ltb, leb, eqb, Option, Some, None}
 use Rattle.words.specs.Bools.{both}
 use Rattle.words.specs.Below.{count_below}
 use Rattle.header.specs.Header.{fingerprint_of}
@@ -13,11 +13,6 @@ pick_slot false s other = other
 unfoldable pub lowest : (ℕ → Bool) → ℕ → ℕ → Option ℕ
 lowest f zero s = None
 lowest f (suc n) s = pick_slot (f s) s (lowest f n (suc s))
-
--- a slot that was found is below n
-abbrev pub Within : ℕ → Option ℕ → Type 0
-Within n (Some s) = s < n
-Within n None = Unit {0}
 
 -- Slot s is occupied and holds the key. (01's slip: "A match on fingerprint alone, or on a vacant slot.")
 unfoldable pub holds_key : Leaf → ℕ → ℕ → Bool

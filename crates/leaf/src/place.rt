@@ -2,6 +2,8 @@
 // the steps of a list, which name them.
 ghost use Rattle.std.specs.Prelude.{◌≡◌, cond, ◌+◌, ◌*◌, ◌/◌, ◌≤◌, ◌<◌, ltb};
 
+use header::slot::Slot;
+
 #[derive(Clone, Copy)]
 pub struct Leaf;
 
@@ -20,29 +22,25 @@ impl Leaf {
 
     pub const SIBLING_LINE: u64 = 3;
 
-    pub fn key_place(s: usize) -> usize
-        requires { s < 14 }
+    pub fn key_place(s: Slot) -> usize
         ensures { result ≡ 16 + 16 * s }
     {
-        16 + 16 * s
+        16 + 16 * s.number()
     }
 
-    pub fn value_place(s: usize) -> usize
-        requires { s < 14 }
+    pub fn value_place(s: Slot) -> usize
         ensures { result ≡ 24 + 16 * s }
     {
-        24 + 16 * s
+        24 + 16 * s.number()
     }
 
-    pub fn key_word(s: usize) -> u64
-        requires { s < 14 }
+    pub fn key_word(s: Slot) -> u64
         ensures { result ≡ 2 + 2 * s }
     {
         (Leaf::key_place(s) / 8) as u64
     }
 
-    pub fn value_word(s: usize) -> u64
-        requires { s < 14 }
+    pub fn value_word(s: Slot) -> u64
         ensures { result ≡ 3 + 2 * s }
     {
         (Leaf::value_place(s) / 8) as u64
@@ -57,22 +55,21 @@ impl Leaf {
     }
 
     // The line of slot s, of the leaf's four.
-    pub fn line(s: usize) -> u64
-        requires { s < 14 }
+    pub fn line(s: Slot) -> u64
         ensures { result ≡ (16 + 16 * s) / 64 }
     {
         (Leaf::key_place(s) / 64) as u64
     }
 
     // The last slot in the line of slot s, which is past line 0.
-    pub fn last_beside(s: usize) -> usize
-        requires { (3 ≤ s) × (s < 14) }
-        ensures { (result ≡ cond (ltb s 7) 6 (cond (ltb s 11) 10 13)) × (s ≤ result) × (result < 14) × (result ≤ s + 3) }
+    pub fn last_beside(s: Slot) -> Slot
+        requires { 3 ≤ s }
+        ensures { (result ≡ cond (ltb s 7) 6 (cond (ltb s 11) 10 13)) × (s ≤ result) × (result ≤ s + 3) }
     {
-        match s {
-            3..=6 => 6,
-            7..=10 => 10,
-            _ => 13,
+        match s.number() {
+            3..=6 => Slot::new(6),
+            7..=10 => Slot::new(10),
+            _ => Slot::new(13),
         }
     }
 }

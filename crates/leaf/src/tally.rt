@@ -1,14 +1,16 @@
 // One pass over a leaf's slots tells all that a walk of the chain asks of it. Per slot only numbers grow, and keys are compared
 // with each other only where a fingerprint comes twice: equal keys have equal fingerprints.
-ghost use Rattle.std.specs.Prelude.{◌≡◌, false, cond, ◌+◌, ◌%◌, ◌≤◌, ◌<◌, min, max, eqb, length, get_or, set};
-ghost use Rattle.header.specs.Header.{head_at, bits_of, fingerprint_of};
+ghost use Rattle.std.specs.Prelude.{◌≡◌, ℕ, false, cond, ◌+◌, ◌%◌, ◌≤◌, ◌<◌, min, max, eqb, length, get_or, set};
+ghost use Rattle.header.specs.Header.{fingerprint_of};
 ghost use Rattle.leaf.specs.Leaf.{leaf_in};
 ghost use Rattle.leaf.specs.Tally.{Tells, shares, twin_at, twins};
 ghost use Rattle.leaf.specs.TallySteps.{noted, passed, Few, Hits, TellsTo, Stamped};
 
+use crate::page::Page;
 use crate::place::Leaf;
 use crate::search::key_at;
-use header::{Header, fingerprint_at};
+use header::fingerprint_at;
+use header::slot::Slot;
 use words::LARGEST;
 
 // How many slots are occupied, and have a wrong fingerprint; the smallest key and the largest; and of each slot a bit, whether its
@@ -22,23 +24,22 @@ pub struct Tally {
     pub hits: u64,
 }
 
-fn print_at(leaf: &[u8; 256], s: usize) -> u8
-    requires { s < 14 }
+fn print_at(leaf: &Page, s: Slot) -> u8
     ensures { result ≡ (leaf_in leaf.now).fp s }
 {
-    leaf[2 + s]
+    leaf.bytes()[2 + s.number()]
 }
 
 // The fingerprint that the key of slot s has, whatever stands in the header.
-pub fn own_print(leaf: &[u8; 256], s: usize) -> u8
-    requires { s < 14 }
+pub fn own_print(leaf: &Page, s: Slot) -> u8
     ensures { result ≡ fingerprint_of ((leaf_in leaf.now).key s) }
 {
-    fingerprint_at(leaf, Leaf::key_place(s))
+    fingerprint_at(leaf.bytes(), Leaf::key_place(s))
 }
 
 // Stamps a fingerprint with the leaf's number; 1 where it bore it already.
-fn stamp(stamps: &mut [u8; 256], print: u8, number: u8) -> u64
+fn stamp(stamps: &mut [u8], print: u8, number: u8) -> u64
+    requires { 256 ≤ length stamps.old }
     ensures { (stamps.new ≡ set stamps.old print number)
         × (result ≡ cond (eqb (get_or stamps.old print 0) number) 1 0) × (result ≤ 1) }
 {
@@ -74,20 +75,12 @@ fn pass_over(t: Tally) -> Tally
 }
 
 // One turn of the pass.
-fn slot(
-    leaf: &[u8; 256],
-    head: Header,
-    s: usize,
-    stamps: &mut [u8; 256],
-    number: u8,
-    t: Tally,
-) -> Tally
-    requires { (s < 14) × (bits_of head ≡ head_at leaf.now 0)
-        × TellsTo (leaf_in leaf.now) s t × Stamped (leaf_in leaf.now) number s stamps.old }
+fn slot(leaf: &Page, s: Slot, stamps: &mut [u8], number: u8, t: Tally) -> Tally
+    requires { (256 ≤ length stamps.old) × TellsTo (leaf_in leaf.now) s t × Stamped (leaf_in leaf.now) number s stamps.old }
     ensures { TellsTo (leaf_in leaf.now) (s + 1) result
         × Stamped (leaf_in leaf.now) number (s + 1) stamps.new }
 {
-    if head.occupied(s) {
+    if leaf.occupied(s) {
         let own = own_print(leaf, s);
         let key = key_at(leaf, s);
         let print = print_at(leaf, s);
@@ -98,9 +91,10 @@ fn slot(
 }
 
 // The whole pass. The stamps may hold anything: a stamp of an earlier leaf with this number costs a comparison, and no more.
-pub fn tally_of(leaf: &[u8; 256], head: Header, stamps: &mut [u8; 256], number: u8) -> Tally
-    requires { bits_of head ≡ head_at leaf.now 0 }
-    ensures { Tells (leaf_in leaf.now) result × Hits (leaf_in leaf.now) 14 result.hits }
+pub fn tally_of(leaf: &Page, stamps: &mut [u8], number: u8) -> Tally
+    requires { 256 ≤ length stamps.old }
+    ensures { Tells (leaf_in leaf.now) result × Hits (leaf_in leaf.now) 14 result.hits
+        × (length stamps.new ≡ length stamps.old) }
 {
     let mut t = Tally {
         entries: 0,
@@ -110,27 +104,28 @@ pub fn tally_of(leaf: &[u8; 256], head: Header, stamps: &mut [u8; 256], number: 
         hits: 0,
     };
     for s in 0..Leaf::SLOTS {
-        t = slot(leaf, head, s, stamps, number, t);
+        t = slot(leaf, Slot::new(s), stamps, number, t);
     }
     t
 }
 
-// Whether slot t is occupied and has the fingerprint and the key of slot s.
-fn same_key(leaf: &[u8; 256], head: Header, s: usize, t: usize) -> bool
-    requires { (s < 14) × (t < 14) × (bits_of head ≡ head_at leaf.now 0) }
-    ensures { result ≡ shares (leaf_in leaf.now) s t }
+// Whether slot t is occupied and has the fingerprint and the key told, which are those of another slot.
+fn has_both(leaf: &Page, print: u8, key: u64, t: Slot) -> bool
+    ensures { (s : ℕ) → print ≡ (leaf_in leaf.now).fp s → key ≡ (leaf_in leaf.now).key s
+        → result ≡ shares (leaf_in leaf.now) s t }
 {
-    head.occupied(t) && print_at(leaf, t) == print_at(leaf, s) && key_at(leaf, t) == key_at(leaf, s)
+    leaf.occupied(t) && print_at(leaf, t) == print && key_at(leaf, t) == key
 }
 
 // Whether slot s is occupied and a lower one has its key.
-fn is_twin(leaf: &[u8; 256], head: Header, s: usize) -> bool
-    requires { (s < 14) × (bits_of head ≡ head_at leaf.now 0) }
+fn is_twin(leaf: &Page, s: Slot) -> bool
     ensures { result ≡ twin_at (leaf_in leaf.now) s }
 {
-    if head.occupied(s) {
-        for t in 0..s {
-            if same_key(leaf, head, s, t) {
+    if leaf.occupied(s) {
+        let print = print_at(leaf, s);
+        let key = key_at(leaf, s);
+        for t in 0..s.number() {
+            if has_both(leaf, print, key, Slot::new(t)) {
                 return true;
             }
         }
@@ -139,17 +134,16 @@ fn is_twin(leaf: &[u8; 256], head: Header, s: usize) -> bool
 }
 
 // Whether slot s is occupied and a lower one has its key, where an even number says that none has.
-fn is_hit_twin(leaf: &[u8; 256], head: Header, s: usize, hits: u64) -> bool
-    requires { (s < 14) × (bits_of head ≡ head_at leaf.now 0)
-        × (hits % 2 ≡ 0 → twin_at (leaf_in leaf.now) s ≡ false) }
+fn is_hit_twin(leaf: &Page, s: Slot, hits: u64) -> bool
+    requires { hits % 2 ≡ 0 → twin_at (leaf_in leaf.now) s ≡ false }
     ensures { result ≡ twin_at (leaf_in leaf.now) s }
 {
-    hits % 2 != 0 && is_twin(leaf, head, s)
+    hits % 2 != 0 && is_twin(leaf, s)
 }
 
 // Whether two keys of the leaf are equal: only slots that were hit are compared with the lower ones, until no hit is left.
-pub fn has_twins(leaf: &[u8; 256], head: Header, hits: u64) -> bool
-    requires { (bits_of head ≡ head_at leaf.now 0) × Hits (leaf_in leaf.now) 14 hits }
+pub fn has_twins(leaf: &Page, hits: u64) -> bool
+    requires { Hits (leaf_in leaf.now) 14 hits }
     ensures { result ≡ twins (leaf_in leaf.now) }
 {
     let mut left = hits;
@@ -157,7 +151,7 @@ pub fn has_twins(leaf: &[u8; 256], head: Header, hits: u64) -> bool
         if left == 0 {
             return false;
         }
-        if is_hit_twin(leaf, head, s, left) {
+        if is_hit_twin(leaf, Slot::new(s), left) {
             return true;
         }
         left = left / 2;

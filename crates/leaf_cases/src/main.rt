@@ -4,7 +4,9 @@
 
 ghost use Rattle.std.specs.Prelude.{◌<◌};
 
+use header::slot::Slot;
 use header::{Header, fingerprint_of};
+use leaf::page::Page;
 use leaf::place::Leaf;
 use leaf::search::{entries, find_slot, lowest_vacant};
 use leaf::tally::{has_twins, tally_of};
@@ -12,14 +14,15 @@ use std::io;
 use telling::{end_line, tell};
 
 // 14 where there is none.
-fn tell_slot(rt: &impl Print, slot: Option<usize>) -> io::Result<()> {
-    tell(rt, slot.unwrap_or(14) as u64)
+fn tell_slot(rt: &impl Print, slot: Option<Slot>) -> io::Result<()> {
+    tell(rt, slot.map_or(14, |s| s.number() as u64))
 }
 
 // The key in slot s, with the fingerprint told.
 fn enter(leaf: &mut [u8; 256], s: usize, key: u64, print: u8)
     requires { s < 14 }
 {
+    let s = Slot::new(s);
     let head = Header::read(leaf, 0).mark(s, print);
     words::set_word(leaf, Leaf::key_place(s), key);
     words::set_word(leaf, 0, head.low);
@@ -29,21 +32,22 @@ fn enter(leaf: &mut [u8; 256], s: usize, key: u64, print: u8)
 // Entries, smallest key (the largest word where there is none), lowest vacant slot, slots with a wrong fingerprint, whether two
 // keys are equal.
 fn tell_leaf(rt: &impl Print, leaf: &[u8; 256]) -> io::Result<()> {
-    let head = Header::read(leaf, 0);
+    let leaf = Page::read(leaf);
     let mut stamps = [0u8; 256];
-    let t = tally_of(leaf, head, &mut stamps, 1);
-    tell(rt, entries(head))?;
+    let t = tally_of(&leaf, &mut stamps, 1);
+    tell(rt, entries(leaf.head()))?;
     tell(rt, t.least)?;
-    tell_slot(rt, lowest_vacant(head))?;
+    tell_slot(rt, lowest_vacant(leaf.head()))?;
     tell(rt, t.wrong)?;
-    tell(rt, u64::from(has_twins(leaf, head, t.hits)))?;
+    tell(rt, u64::from(has_twins(&leaf, t.hits)))?;
     end_line(rt)
 }
 
 // Where each key stands.
 fn tell_keys(rt: &impl Print, leaf: &[u8; 256], keys: &[u64]) -> io::Result<()> {
+    let leaf = Page::read(leaf);
     for key in keys {
-        tell_slot(rt, find_slot(leaf, *key))?;
+        tell_slot(rt, find_slot(&leaf, *key))?;
         end_line(rt)?;
     }
     Ok(())

@@ -8,7 +8,6 @@ ghost use Rattle.machine.specs.Tables.{counted, marked, Zero, Tally, Backs, AtMo
 
 use crate::list::step_at;
 use steps::Step;
-use words::wide;
 
 // The last fence of the first n steps, or 0.
 pub fn last_fence(list: &[u64], n: usize) -> usize
@@ -29,7 +28,7 @@ pub fn last_fence(list: &[u64], n: usize) -> usize
 pub fn count_at(table: &[u8; 1024], l: u64) -> u64
     ensures { result ≡ get_or table.now l 0 }
 {
-    table.get(l as usize).map_or(0, |count| wide(*count))
+    table.get(l as usize).map_or(0, |count| u64::from(*count))
 }
 
 pub fn count_store(table: &mut [u8; 1024], step: Step)

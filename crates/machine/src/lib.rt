@@ -10,7 +10,7 @@ ghost use Rattle.std.specs.Prelude.{◌≡◌};
 ghost use Rattle.machine.specs.Taking.{ran_as, run_of, cut_of};
 
 use crate::memory::{cut_steps, run_steps};
-pub use crate::refusals::check_image;
+pub use crate::refusals::{bad_image, check_image};
 use crate::refusals::{check_arrivals, check_list};
 use steps::Refusal;
 

@@ -23,16 +23,23 @@ pub fn step_of(a: u64, b: u64) -> Step
     Step::Fence
 }
 
+pub fn second_word(step: Step) -> u64
+    ensures { result ≡ second step }
+{
+    if let Step::Store(_, v) = step { v } else { 0 }
+}
+
 // The two words of a step. The first has to fit.
 pub fn words_of(step: Step) -> (u64, u64)
     requires { first step < 2 ^ 64 }
     ensures { (result.0 ≡ first step) × (result.1 ≡ second step) }
 {
-    match step {
-        Step::Store(p, v) => (8 * p, v),
-        Step::WriteBack(k) => (WRITE_BACK + k, 0),
-        Step::Fence => (FENCE, 0),
-    }
+    let first = match step {
+        Step::Store(p, _) => 8 * p,
+        Step::WriteBack(k) => WRITE_BACK + k,
+        Step::Fence => FENCE,
+    };
+    (first, second_word(step))
 }
 
 // Is the step's word, or its line, one of an image of so many bytes?

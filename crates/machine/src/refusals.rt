@@ -10,12 +10,18 @@ use crate::counts::{count_at, count_store, last_fence, mark_backs, tally};
 use crate::list::{formed_at, step_at};
 use steps::{Refusal, Step};
 
-// Refusal 1.
 #[tactic(auto, unfolding(steps::specs::Refusals::bad_image))]
+pub fn bad_image(size: u64) -> bool
+    ensures { result ≡ bad_image size }
+{
+    size == 0 || 65536 < size || size % 256 != 0
+}
+
+// Refusal 1.
 pub fn check_image(size: u64) -> Result<(), Refusal>
     ensures { Checks (bad_image size) Refusal.BadImage result }
 {
-    if size == 0 || 65536 < size || size % 256 != 0 {
+    if bad_image(size) {
         return Err(Refusal::BadImage);
     }
     Ok(())

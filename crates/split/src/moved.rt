@@ -1,9 +1,10 @@
 // The slots whose entries a split moves.
-ghost use Rattle.std.specs.Prelude.{◌≡◌, ℕ, ◌≤◌, ◌<◌, length, get_or};
+ghost use Rattle.std.specs.Prelude.{◌≡◌, ℕ, ◌<◌, get_or};
 ghost use Rattle.leaf.specs.Leaf.{leaf_in, Right};
 ghost use Rattle.leaf.specs.Search.{count};
 ghost use Rattle.lists.specs.FullLists.{moved_slots};
 
+use leaf::page::Page;
 use order::order_from;
 
 #[derive(Clone, Copy)]
@@ -13,7 +14,7 @@ pub struct Moved {
 }
 
 // Of the slots of a full leaf, in rising order of their keys, the upper half.
-pub fn upper_half(leaf: &[u8; 256]) -> Moved
+pub fn upper_half(leaf: &Page) -> Moved
     requires { Right (leaf_in leaf.now) × (count (leaf_in leaf.now) ≡ 14) }
     ensures { result.slots ≡ moved_slots (leaf_in leaf.now) }
 {

@@ -1,4 +1,4 @@
-// What a list is made of, and the two counts that are told of it. The memory model stands in specs/.
+// What a list is made of, the two counts that are told of it, and why a call is refused. The memory model stands in specs/.
 #![tactic(auto)]
 
 mod refusal;

@@ -332,17 +332,25 @@ module _ (w : ℕ → ℕ) (N key : ℕ) where
     noted = noted_none (view w) (way (view w) N key) leasts numbers;
   })
 
-  pub kept_turn : (i : ℕ) (st r : State) (leasts numbers ls ns : List ℕ) → Kept i st leasts numbers → st.leaves ≡ i → i < N → st.stage ≡ 0
-      → r ≡ judged (view w st.at) N key st → ls ≡ set leasts st.leaves (smallest_of (view w st.at)) → ns ≡ set numbers st.leaves st.at
+  pub kept_turn : (i : ℕ) (st r : State) (leasts numbers ls ns : List ℕ) → Kept i st leasts numbers → i < N → st.stage ≡ 0
+      → r ≡ judged (view w st.at) N key st → ls ≡ set leasts i (smallest_of (view w st.at)) → ns ≡ set numbers i st.at
       → Kept (i + 1) r ls ns
-  kept_turn i st r leasts numbers ls ns k p h e j el en = record {
+  kept_turn i st r leasts numbers ls ns k h e j el en = record {
     bounded = turn_bounded w N key i st r k.bounded j;
     rest = walk_turn (view w) N key i st r (surveyed (view w) N key) h e j k.rest;
     coming = coming_next (view w) N key i st k.coming r h e j;
     noted = noted_next (view w) (way (view w) N key) i st.at leasts numbers ls ns
-        (coming_here (view w) N key i st k.coming h e) k.noted
-        (el ∙ ap (λ (n : ℕ). set leasts n (smallest_of (view w st.at))) p) (en ∙ ap (λ (n : ℕ). set numbers n st.at) p);
+        (coming_here (view w) N key i st k.coming h e) k.noted el en;
   }
+
+  -- the turns made are the leaves passed
+  pub kept_passed : (i : ℕ) (st r : State) (leasts numbers ls ns : List ℕ) → Kept i st leasts numbers → st.leaves ≡ i → i < N
+      → st.stage ≡ 0 → r ≡ judged (view w st.at) N key st → ls ≡ set leasts st.leaves (smallest_of (view w st.at))
+      → ns ≡ set numbers st.leaves st.at → Kept (i + 1) r ls ns
+  kept_passed i st r leasts numbers ls ns k p h e j el en =
+      kept_turn i st r leasts numbers ls ns k h e j
+      (el ∙ ap (λ (n : ℕ). set leasts n (smallest_of (view w st.at))) p)
+      (en ∙ ap (λ (n : ℕ). set numbers n st.at) p)
 
   module _ (i : ℕ) (st : State) (leasts numbers : List ℕ) (k : Kept i st leasts numbers) where
     -- the walk has stopped, or made all its turns

@@ -13,6 +13,8 @@ use Rattle.survey.specs.declared.walk.Fault.{Fault}
 use Rattle.survey.specs.declared.walk.Fault.TheVariants.{Far, Again, Locked, Bare, WrongPrint, Twin, Low}
 use Rattle.survey.specs.declared.walk.Stage.{Stage}
 use Rattle.survey.specs.declared.walk.Stage.TheVariants.{GoesOn, Ended, Broken}
+use Rattle.survey.specs.declared.marks.Marks.{Marks}
+use Rattle.survey.specs.declared.walk.Progress.{Progress}
 use Rattle.survey.specs.declared.walk.Walk.{Walk}
 
 -- request [1]'s numbers
@@ -49,8 +51,9 @@ pub record State : Type 0 where
   pub last : ℕ
   pub met : ℕ → Bool
 
-abbrev pub state_of : Walk → State
-state_of w = record {
+-- on the way, with the blocks met
+abbrev pub state_in : Progress → Marks → State
+state_in w met = record {
   stage = stage_number w.stage;
   at = w.at;
   prev = w.prev;
@@ -59,8 +62,11 @@ state_of w = record {
   leaves = w.leaves;
   entries = w.entries;
   last = w.last;
-  met = is_in (blocks_in w.met);
+  met = is_in (blocks_in met);
 }
+
+abbrev pub state_of : Walk → State
+state_of w = state_in w.end w.met
 
 abbrev pub stopped : ℕ → State → State
 stopped fault st = record {

@@ -3,8 +3,7 @@ ghost use Rattle.std.specs.Prelude.{◌≡◌, ◌+◌, ◌*◌, ◌≤◌, leng
 ghost use Rattle.words.specs.Words.{reads};
 ghost use Rattle.leaf.specs.Leaf.{view};
 
-use header::Header;
-use leaf::part::leaf_part;
+use leaf::page::page_of;
 use leaf::search::next_of;
 
 // The block that the active sibling of a block names.
@@ -12,6 +11,5 @@ pub fn next_block(image: &[u8], block: u64) -> u64
     requires { 256 * block + 256 ≤ length image.now }
     ensures { result ≡ (view (reads image.now) block).next }
 {
-    let leaf = leaf_part(image, block);
-    next_of(leaf, Header::read(leaf, 0))
+    next_of(&page_of(image, block))
 }

@@ -2,16 +2,17 @@
 ghost use Rattle.std.specs.Prelude.{◌≡◌, not, ◌+◌, ◌*◌, ◌/◌, ◌≤◌, ◌<◌, eqb, false, length, set, MatchResult};
 ghost use Rattle.words.specs.Words.{reads};
 ghost use Rattle.words.specs.Bools.{bit};
-ghost use Rattle.header.specs.Header.{head_at, bits_of};
+ghost use Rattle.words.specs.WordLaws.{Bytes};
+ghost use Rattle.header.specs.Header.{head_at};
 ghost use Rattle.leaf.specs.Leaf.{leaf_in, view};
 ghost use Rattle.leaf.specs.Search.{smallest_of};
 ghost use Rattle.leaf.specs.Tally.{twins};
 ghost use Rattle.leaf.specs.TallySteps.{Hits};
-ghost use Rattle.survey.specs.Walk.{number_told, state_of, fault_by, reached_by, smallest_by, judged, moved, start, surveyed, Noted};
+ghost use Rattle.survey.specs.Marks.{blocks_in, is_in};
+ghost use Rattle.survey.specs.Walk.{number_told, state_in, state_of, fault_by, reached_by, smallest_by, judged, moved, start, surveyed, Noted};
 
 use crate::marks::Marks;
-use header::Header;
-use leaf::part::leaf_part;
+use leaf::page::{Page, page_of};
 use leaf::place::Leaf;
 use leaf::search::next_of;
 use leaf::tally::{Tally, has_twins, tally_of};
@@ -36,9 +37,9 @@ pub enum Stage {
     Broken(Fault),
 }
 
-// Where the walk is, or where it ended, and all that it has noted.
+// Where the walk is, or where it ended, and what it has noted of the leaves passed.
 #[derive(Clone, Copy)]
-pub struct Walk {
+pub struct Progress {
     pub stage: Stage,
     pub at: u64,
     pub prev: u64,
@@ -47,17 +48,37 @@ pub struct Walk {
     pub leaves: u64,
     pub entries: u64,
     pub last: u64,
+}
+
+// What the walk tells. The blocks met stand apart while it goes on: an array that is asked by a number would keep all that stands
+// in one value with it out of the registers.
+#[derive(Clone, Copy)]
+pub struct Walk {
+    pub end: Progress,
     pub met: Marks,
 }
 
 impl Walk {
-    // At block 0, which is met.
-    fn begun() -> Walk
-        ensures { state_of result ≡ start }
+    // Refusal 3: the walk of a sound image.
+    pub fn sound(self) -> Result<Walk, Refusal>
+        ensures { MatchResult result (λ w. (w ≡ self) × ((state_of self).stage ≡ 1))
+            (λ e. (eqb (state_of self).stage 1 ≡ false) × (e ≡ Refusal.Unsound)) }
     {
-        let mut met = Marks::none();
+        match self.end.stage {
+            Stage::Ended => Ok(self),
+            _ => Err(Refusal::Unsound),
+        }
+    }
+}
+
+impl Progress {
+    // At block 0, which is met.
+    fn begun(met: &mut Marks) -> Progress
+        requires { is_in (blocks_in met.old) ≡ (λ b. false) }
+        ensures { state_in result met.new ≡ start }
+    {
         met.mark(0);
-        Walk {
+        Progress {
             stage: Stage::GoesOn,
             at: 0,
             prev: 0,
@@ -66,27 +87,15 @@ impl Walk {
             leaves: 0,
             entries: 0,
             last: 0,
-            met,
-        }
-    }
-
-    // Refusal 3: the walk of a sound image.
-    pub fn sound(self) -> Result<Walk, Refusal>
-        ensures { MatchResult result (λ w. (w ≡ self) × ((state_of self).stage ≡ 1))
-            (λ e. (eqb (state_of self).stage 1 ≡ false) × (e ≡ Refusal.Unsound)) }
-    {
-        match self.stage {
-            Stage::Ended => Ok(self),
-            _ => Err(Refusal::Unsound),
         }
     }
 
     // The leaf at hand is good: note it, and go on to the next.
-    fn onward(&mut self, next: u64, reached: bool, t: Tally)
+    fn onward(&mut self, met: &mut Marks, next: u64, reached: bool, t: Tally)
         requires { (next < 256) × (self.old.leaves ≤ 256) × (self.old.entries ≤ 3584) × (t.entries ≤ 14) }
-        ensures { state_of self.new ≡ moved next t.entries (bit reached) t.most (state_of self.old) }
+        ensures { state_in self.new met.new ≡ moved next t.entries (bit reached) t.most (state_in self.old met.old) }
     {
-        self.met.mark(next as usize);
+        met.mark(next as usize);
         self.stage = if next == 0 {
             Stage::Ended
         } else {
@@ -102,19 +111,18 @@ impl Walk {
     }
 
     // The first of the faults of the leaf at hand, whose active sibling and tally are told.
-    fn fault(&self, leaf: &[u8; 256], head: Header, n: u64, next: u64, t: Tally) -> Option<Fault>
-        requires { (n ≤ 256) × (bits_of head ≡ head_at leaf.now 0)
-            × Hits (leaf_in leaf.now) 14 t.hits }
+    fn fault(&self, met: &Marks, leaf: &Page, n: u64, next: u64, t: Tally) -> Option<Fault>
+        requires { (n ≤ 256) × Hits (leaf_in leaf.now) 14 t.hits }
         ensures { number_told result
-            ≡ fault_by n next (bits_of head) (twins (leaf_in leaf.now)) t (reached_by t self.now.last) (state_of self.now) }
+            ≡ fault_by n next (head_at leaf.now 0) (twins (leaf_in leaf.now)) t (reached_by t self.now.last) (state_in self.now met.now) }
     {
         if n <= next {
             return Some(Fault::Far);
         }
-        if self.met.has(next as usize) && next != 0 {
+        if met.has(next as usize) && next != 0 {
             return Some(Fault::Again);
         }
-        if head.locked() {
+        if leaf.head().locked() {
             return Some(Fault::Locked);
         }
         if t.entries == 0 && self.at != 0 {
@@ -123,7 +131,7 @@ impl Walk {
         if t.wrong != 0 {
             return Some(Fault::WrongPrint);
         }
-        if has_twins(leaf, head, t.hits) {
+        if has_twins(leaf, t.hits) {
             return Some(Fault::Twin);
         }
         if self.entries != 0 && reaches(t, self.last) {
@@ -135,32 +143,33 @@ impl Walk {
     // The leaf at hand judged: the walk goes on to the next, or stops.
     fn judge(
         &mut self,
-        leaf: &[u8; 256],
+        met: &mut Marks,
+        leaf: &Page,
         n: u64,
         key: u64,
         stamps: &mut [u8; 256],
         leasts: &mut [u64],
         numbers: &mut [u8],
     )
-        requires { (n ≤ 256) × (self.old.leaves ≤ 256)
+        requires { Bytes leaf.now × (n ≤ 256) × (self.old.leaves ≤ 256)
             × (self.old.entries ≤ 3584) × (self.old.at < 256) }
-        ensures { (state_of self.new ≡ judged (leaf_in leaf.now) n key (state_of self.old))
+        ensures { (state_in self.new met.new ≡ judged (leaf_in leaf.now) n key (state_in self.old met.old))
             × (leasts.new ≡ set leasts.old self.old.leaves (smallest_of (leaf_in leaf.now)))
             × (numbers.new ≡ set numbers.old self.old.leaves self.old.at) }
     {
-        let head = Header::read(leaf, 0);
-        let next = next_of(leaf, head);
-        let t = tally_of(leaf, head, stamps, stamp_of(self.leaves));
+        let t = tally_of(leaf, stamps, stamp_of(self.leaves));
         note_leaf(leasts, numbers, self.leaves as usize, self.at, t);
-        match self.fault(leaf, head, n, next, t) {
+        let next = next_of(leaf);
+        match self.fault(met, leaf, n, next, t) {
             Some(fault) => self.stage = Stage::Broken(fault),
-            None => self.onward(next, reaches(t, key), t),
+            None => self.onward(met, next, reaches(t, key), t),
         }
     }
 
     // One turn: the leaf at hand, in its part of the image, judged and noted.
     fn turn(
         &mut self,
+        met: &mut Marks,
         image: &[u8],
         n: u64,
         key: u64,
@@ -170,11 +179,19 @@ impl Walk {
     )
         requires { (n ≤ 256) × (256 * n ≤ length image.now) × (self.old.at < n) × (self.old.leaves ≤ 256)
             × (self.old.entries ≤ 3584) }
-        ensures { (state_of self.new ≡ judged (view (reads image.now) self.old.at) n key (state_of self.old))
+        ensures { (state_in self.new met.new ≡ judged (view (reads image.now) self.old.at) n key (state_in self.old met.old))
             × (leasts.new ≡ set leasts.old self.old.leaves (smallest_of (view (reads image.now) self.old.at)))
             × (numbers.new ≡ set numbers.old self.old.leaves self.old.at) }
     {
-        self.judge(leaf_part(image, self.at), n, key, stamps, leasts, numbers)
+        self.judge(
+            met,
+            &page_of(image, self.at),
+            n,
+            key,
+            stamps,
+            leasts,
+            numbers,
+        )
     }
 }
 
@@ -214,12 +231,15 @@ pub fn survey_noting(image: &[u8], key: u64, leasts: &mut [u64], numbers: &mut [
 {
     let n = (image.len() / Leaf::BYTES) as u64;
     let mut stamps = [0u8; 256];
-    let mut w = Walk::begun();
+    let mut met = Marks::none();
+    let mut end = Progress::begun(&mut met);
     for _ in 0..n {
-        w.turn(image, n, key, &mut stamps, leasts, numbers);
-        let Stage::GoesOn = w.stage else { return w };
+        end.turn(&mut met, image, n, key, &mut stamps, leasts, numbers);
+        let Stage::GoesOn = end.stage else {
+            return Walk { end, met };
+        };
     }
-    w
+    Walk { end, met }
 }
 
 pub fn survey(image: &[u8], key: u64) -> Walk

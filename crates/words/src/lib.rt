@@ -6,13 +6,6 @@ ghost use Rattle.words.specs.Words.{pair_at, four_at, word_at, store_at};
 
 pub const LARGEST: u64 = u64::MAX;
 
-// A cast told with its bound.
-pub fn wide(byte: u8) -> u64
-    ensures { (result ≡ byte) × (result < 256) }
-{
-    byte as u64
-}
-
 fn pair_at(bytes: &[u8], place: usize) -> u64
     requires { place + 2 ≤ length bytes.now }
     ensures { (result ≡ pair_at bytes.now place) × (result < 65536) }

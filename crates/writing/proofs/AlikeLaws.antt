@@ -56,17 +56,17 @@ module _ (l list : List ℕ) where
     walked e =
         let near = long_enough l good in
         let bounds = noted_bounds l key good in
-        let t : walk.target ≡ (surveyed (leaves l) (blocks l) key).target = ap (λ (s : State). s.target) is in
-        let b : walk.before ≡ (surveyed (leaves l) (blocks l) key).before = ap (λ (s : State). s.before) is in
+        let t : walk.end.target ≡ (surveyed (leaves l) (blocks l) key).target = ap (λ (s : State). s.target) is in
+        let b : walk.end.before ≡ (surveyed (leaves l) (blocks l) key).before = ap (λ (s : State). s.before) is in
         record {
           good = good;
           room = ltb-false (length list) 112 room;
           is = is;
           ended = e;
           small = near.1;
-          target_inside = block_inside l walk.target good (omega (arith, t, bounds.target));
+          target_inside = block_inside l walk.end.target good (omega (arith, t, bounds.target));
           target_near = omega (arith, t, bounds.target, near.1);
-          before_inside = block_inside l walk.before good (omega (arith, b, bounds.before));
+          before_inside = block_inside l walk.end.before good (omega (arith, b, bounds.before));
           before_near = omega (arith, b, bounds.before, near.1);
         }
 

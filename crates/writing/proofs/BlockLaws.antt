@@ -5,20 +5,12 @@ use Rattle.words.specs.Words.{reads}
 use Rattle.words.specs.WordLaws.{reads_block}
 use Rattle.header.specs.Header.{whole, head_at}
 use Rattle.leaf.proofs.LeafLaws.{block_at}
-use Rattle.leaf.specs.Search.{slot_of, Within}
-use Rattle.leaf.proofs.SearchLaws.{slot_at}
-use Rattle.image.proofs.Blocks.{view_size}
 use Rattle.image.specs.Image.{leaves}
 use Rattle.lists.specs.Lists.{head_in}
 use Rattle.words.specs.WordLaws.{Bytes}
 use Rattle.leaf.specs.Leaf.{Leaf}
 use Rattle.lists.proofs.Bytes.{reads_small}
 use Rattle.split.specs.Full.{HasLeaf}
-
--- a slot that has a key is one of the 14
-pub slot_within : (l : List ℕ) (b k : ℕ) (x : Option ℕ) → x ≡ slot_of (leaves l b) k → Within 14 x
-slot_within l b k (Some s) e = rw (view_size (reads l) b) at (slot_at (leaves l b) k s (sym e)).0
-slot_within l b k None e = tt
 
 -- the header at the start of a block's part, from a up to e
 pub part_head : (l : List ℕ) (b a e : ℕ) → a ≡ 256 * b → e ≡ a + 256 → head_at (take (e - a) (drop a l)) 0 ≡ head_in (reads l) b

@@ -1,25 +1,18 @@
-// One block of an image: its header and the slot of a key.
+// One block of an image.
 ghost use Rattle.std.specs.Prelude.{◌≡◌, ◌+◌, ◌*◌, ◌≤◌, length};
 ghost use Rattle.words.specs.Words.{reads};
-ghost use Rattle.header.specs.Header.{bits_of};
-ghost use Rattle.leaf.specs.Search.{slot_of, Within};
+ghost use Rattle.header.specs.Header.{head_at};
+ghost use Rattle.leaf.specs.Leaf.{leaf_in};
 ghost use Rattle.image.specs.Image.{leaves};
 ghost use Rattle.lists.specs.Lists.{head_in};
 
-use header::Header;
-use leaf::part::leaf_part;
-use leaf::search::find_slot;
+use leaf::page::{Page, page_of};
 
-pub fn head_in(image: &[u8], block: u64) -> Header
+// Its page, whose leaf and header are the image's.
+pub fn page_in(image: &[u8], block: u8) -> Page<'_>
     requires { 256 * block + 256 ≤ length image.now }
-    ensures { bits_of result ≡ head_in (reads image.now) block }
+    ensures leaf { leaf_in result ≡ leaves image.now block }
+    ensures head { head_at result 0 ≡ head_in (reads image.now) block }
 {
-    Header::read(leaf_part(image, block), 0)
-}
-
-pub fn slot_in(image: &[u8], block: u64, key: u64) -> Option<usize>
-    requires { 256 * block + 256 ≤ length image.now }
-    ensures { (result ≡ slot_of (leaves image.now block) key) × Within 14 result }
-{
-    find_slot(leaf_part(image, block), key)
+    page_of(image, u64::from(block))
 }

@@ -26,7 +26,7 @@ impl Made {
         ensures { result ≡ counts steps lines (steps - (lines + fences)) }
     {
         Made {
-            steps: steps,
+            steps,
             line_writes: LineWrites(lines),
             word_writes: WordWrites(steps - (lines + fences)),
         }

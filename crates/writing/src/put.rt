@@ -1,23 +1,23 @@
 // Put: a plain one into a leaf that has room, or a split.
-ghost use Rattle.std.specs.Prelude.{◌≡◌, ◌≢◌, ◌+◌, ◌*◌, ◌≤◌, ◌<◌, length, Ok};
-ghost use Rattle.words.specs.Words.{reads};
-ghost use Rattle.header.specs.Header.{bits_of};
-ghost use Rattle.leaf.specs.Leaf.{Right};
+ghost use Rattle.std.specs.Prelude.{◌≡◌, ℕ, ◌+◌, ◌≤◌, length, Ok};
+ghost use Rattle.header.specs.Header.{head_at};
+ghost use Rattle.leaf.specs.Leaf.{leaf_in, Right};
 ghost use Rattle.leaf.specs.Search.{count};
-ghost use Rattle.image.specs.Image.{leaves};
-ghost use Rattle.lists.specs.Lists.{head_in, put_at};
+ghost use Rattle.lists.specs.Lists.{put_at};
 ghost use Rattle.lists.specs.FullLists.{full_put};
+ghost use Rattle.split.specs.Full.{HasLeaf};
 ghost use Rattle.writing.specs.Writing.{outcome, made_as, put_of};
 ghost use Rattle.writing.specs.PutCounts.{plain_lines, full_lines};
 
 use crate::Made;
 use crate::alike::walk_for;
-use crate::block::{head_in, slot_in};
+use crate::block::page_in;
+use emit::entry::Entry;
 use emit::plain::append_put_at;
-use header::Header;
-use leaf::part::leaf_part;
+use header::slot::Slot;
+use leaf::page::Page;
 use leaf::place::Leaf;
-use leaf::search::lowest_vacant;
+use leaf::search::{find_slot, lowest_vacant};
 use split::full::write_full_put;
 use steps::Refusal;
 
@@ -28,22 +28,13 @@ fn plain_lines(n: u64) -> u64
     if n == 5 { 1 } else { 2 }
 }
 
-// The put into the vacant slot s of a block. Each line write has its fence.
-fn put_plain(
-    image: &[u8],
-    head: Header,
-    block: u64,
-    s: usize,
-    list: &mut [u64],
-    key: u64,
-    value: u64,
-) -> Made
-    requires { (256 * block + 256 ≤ length image.now) × (block < 256) × (s < 14) × (112 ≤ length list.old) }
+// The put into the vacant slot s of a block's leaf. Each line write has its fence.
+fn put_plain(leaf: &Page, block: u8, s: Slot, list: &mut [u64], entry: Entry) -> Made
+    requires { 112 ≤ length list.old }
     ensures { made_as (Ok result) list.new
-        ≡ outcome 0 (put_at (bits_of head) (leaves image.now block) block s key value) list.old }
+        ≡ outcome 0 (put_at (head_at leaf.now 0) (leaf_in leaf.now) block s entry.key entry.value) list.old }
 {
-    let leaf = leaf_part(image, block);
-    let n = append_put_at(list, 0, head, leaf, block, s, key, value) as u64;
+    let n = append_put_at(list, 0, leaf.head(), leaf, block, s, entry) as u64;
     let lines = plain_lines(n);
     Made::of(n, lines, lines)
 }
@@ -56,24 +47,15 @@ fn full_lines(n: u64) -> u64
     if n == 42 { 6 } else { 6 + plain_lines(n - 42) }
 }
 
-// The put into a full leaf that is split into the free block `new`. The split has four fences fewer than line writes.
-fn put_full(
-    image: &[u8],
-    head: Header,
-    block: u64,
-    new: u64,
-    list: &mut [u64],
-    key: u64,
-    value: u64,
-) -> Made
-    requires { (256 * block + 256 ≤ length image.now) × (block < 256) × (new < 256) × (112 ≤ length list.old)
-        × (bits_of head ≡ head_in (reads image.now) block) × (block ≢ new) × Right (leaves image.now block)
-        × (count (leaves image.now block) ≡ 14) }
-    ensures { made_as (Ok result) list.new
-        ≡ outcome 0 (full_put (reads image.now) block new key value) list.old }
+// The put into a full leaf that is split into the free block `new`, in any image that has the leaf. The split has four fences fewer
+// than line writes.
+fn put_full(leaf: &Page, block: u8, new: u8, list: &mut [u64], entry: Entry) -> Made
+    requires { (112 ≤ length list.old) × Right (leaf_in leaf.now) × (count (leaf_in leaf.now) ≡ 14)
+        × ((w : ℕ → ℕ) × HasLeaf (head_at leaf.now 0) (leaf_in leaf.now) block new w) }
+    ensures { (w : ℕ → ℕ) → HasLeaf (head_at leaf.now 0) (leaf_in leaf.now) block new w
+        → made_as (Ok result) list.new ≡ outcome 0 (full_put w block new entry.key entry.value) list.old }
 {
-    let leaf = leaf_part(image, block);
-    let n = write_full_put(list, head, leaf, block, new, key, value) as u64;
+    let n = write_full_put(list, leaf, block, new, entry) as u64;
     let lines = full_lines(n);
     Made::of(n, lines, lines - 4)
 }
@@ -84,16 +66,18 @@ pub fn put(image: &[u8], list: &mut [u64], key: u64, value: u64) -> Result<Made,
     ensures { made_as result list.new ≡ put_of image.now list.old key value }
 {
     let w = walk_for(image, list, key)?;
-    if slot_in(image, w.target, key).is_some() {
+    let target = w.end.target as u8;
+    let leaf = page_in(image, target);
+    if find_slot(&leaf, key).is_some() {
         return Err(Refusal::Present);
     }
-    let head = head_in(image, w.target);
-    if let Some(s) = lowest_vacant(head) {
-        return Ok(put_plain(image, head, w.target, s, list, key, value));
+    let entry = Entry { key, value };
+    if let Some(s) = lowest_vacant(leaf.head()) {
+        return Ok(put_plain(&leaf, target, s, list, entry));
     }
     let new = w
         .met
         .lowest_out(image.len() / Leaf::BYTES)
         .ok_or(Refusal::Full)?;
-    Ok(put_full(image, head, w.target, new as u64, list, key, value))
+    Ok(put_full(&leaf, target, new as u8, list, entry))
 }

@@ -23,14 +23,14 @@ returns-in_err-w c =
     (find_unsound l c.args.key c.in_ok-check_image.ensures
     (walk_unsound l c.args.key c.survey.result c.survey.ensures c.in_err-w.ensures.0))
 
-pub leaf_part-requires : goal.leaf_part-requires
-leaf_part-requires c =
+pub page_of-requires : goal.page_of-requires
+page_of-requires c =
     let l = c.args.image.now in
     let fine = c.in_ok-check_image.ensures in
     let told = ap state_of c.in_ok-w.ensures.0 ∙ c.survey.ensures in
     omega (
       arith,
-      block_inside l c.in_ok-w.w.target fine (rw (ap (λ (st : State). st.target) told) (noted_bounds l c.args.key fine).target),
+      block_inside l c.in_ok-w.w.end.target fine (rw (ap (λ (st : State). st.target) told) (noted_bounds l c.args.key fine).target),
     )
 
 pub returns : goal.returns
@@ -40,4 +40,4 @@ returns c =
     rw c.find_leaf.ensures
     (find_slot l c.args.key c.in_ok-check_image.ensures
     (walk_sound l c.args.key c.survey.result c.survey.ensures c.in_ok-w.ensures.1) _
-    (c.leaf_part.ensures.leaf ∙ ap (λ (st : State). leaves l st.target) told))
+    (c.page_of.ensures.leaf ∙ ap (λ (st : State). leaves l st.target) told))

@@ -15,12 +15,12 @@ here c =
     ahead_here (leaves c.args.image.now) (blocks c.args.image.now) c.loop-turn._turn c.loop-turn.block
     (λ b. (b < blocks c.args.image.now) × Right (leaves c.args.image.now b)) c.loop-turn-test.true c.loop-turn.invariant.ahead
 
-pub leaf_part-leaf-requires : goal.leaf_part-leaf-requires
-leaf_part-leaf-requires c = omega (arith, (here (goal.at.leaf_part-leaf-requires c).In-loop-turn).0, c.requires.0)
+pub page_of-leaf-requires : goal.page_of-leaf-requires
+page_of-leaf-requires c = omega (arith, (here (goal.at.page_of-leaf-requires c).In-loop-turn).0, c.requires.0)
 
 pub list_leaf-n-requires : goal.list_leaf-n-requires
 list_leaf-n-requires c = (
-  rw c.leaf_part-leaf.ensures.leaf (here (goal.at.list_leaf-n-requires c).In-loop-turn).1,
+  rw c.page_of-leaf.ensures.leaf (here (goal.at.list_leaf-n-requires c).In-loop-turn).1,
   omega (arith, c.requires.1, length-take {A = ℕ}, length-drop {A = ℕ}),
 )
 
@@ -36,7 +36,7 @@ leaf_done : (c : After-list_leaf-n)
     (buffers c.loop-turn.n c.loop-turn.keys c.loop-turn.values)
 leaf_done c =
     leaf_listed c.loop-turn.n (length c.args.keys.now) c.loop-turn.keys c.loop-turn.values c.loop-turn.invariant.fit
-    c.loop-turn.auto.keys (c.loop-turn.auto.values ∙ sym c.requires.1) _ _ c.leaf_part-leaf.ensures.leaf c.loop-turn.lo _ _ _
+    c.loop-turn.auto.keys (c.loop-turn.auto.values ∙ sym c.requires.1) _ _ c.page_of-leaf.ensures.leaf c.loop-turn.lo _ _ _
     c.list_leaf-n.ensures.filled
 
 pub returns-then-n-room : goal.returns-then-n-room

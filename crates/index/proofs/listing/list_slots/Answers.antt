@@ -1,4 +1,4 @@
-use Rattle.std.proofs.Common.{◌≡◌, ◌<◌, length, arith, length-take}
+use Rattle.std.proofs.Common.{◌≡◌, ◌<◌, length, arith, ◌∙◌, length-take}
 use Rattle.std.proofs.Math.Seq.{get_or-take}
 use Rattle.std.proofs.Math.Decide.{dec_le}
 use Rattle.leaf.specs.Leaf.{leaf_in}
@@ -11,7 +11,7 @@ loop-i-preserved c =
     let few : i < c.min-n.result = omega (arith, length-take c.min-n.result c.args.order.now) in
     slots_next (leaf_in c.args.leaf.now) (length c.args.keys.now) i i c.args.order.now c.loop-i.keys c.loop-i.values _
     c.loop-i.invariant _ _ _ (omega (arith, c.min-n.ensures)) (omega (arith, c.min-n.ensures))
-    (get_or-take c.min-n.result c.args.order.now i 0 few) c.key_at.ensures c.value_at.ensures
+    (c.new-s.ensures ∙ get_or-take c.min-n.result c.args.order.now i 0 few) c.key_at.ensures c.value_at.ensures
 
 pub returns-clause-filled : goal.returns-clause-filled
 returns-clause-filled c =

@@ -32,7 +32,7 @@ returns-in_err-w c =
     (walk_unsound l 0 c.survey_noting.result c.survey_noting.ensures.0 c.in_err-w.ensures.0))
 
 -- no more leaves than blocks, and so room for the notes of all
-few : (c : In_ok-w) → (c.in_ok-w.w.leaves ≤ blocks c.args.image.now) × (c.in_ok-w.w.leaves ≤ 256)
+few : (c : In_ok-w) → (c.in_ok-w.w.end.leaves ≤ blocks c.args.image.now) × (c.in_ok-w.w.end.leaves ≤ 256)
 few c =
     let told = ap (λ (st : State). st.leaves) (ap state_of c.in_ok-w.ensures.0 ∙ c.survey_noting.ensures.0) in
     let n = leaves_few c.args.image.now c.in_ok-check_image.ensures
@@ -57,7 +57,8 @@ pub copy_notes-requires : goal.copy_notes-requires
 copy_notes-requires c =
     let n = (few (goal.at.copy_notes-requires c).In_ok-w).0 in
     let room = not_short (blocks c.args.image.now) (length c.args.smallest.now) (length c.args.blocks.now) c.in_ok-check_buffers.ensures in
-    (omega (arith, n, room.0, length-take {A = ℕ}), omega (arith, n, room.1, length-take {A = ℕ}))
+    let few = (few (goal.at.copy_notes-requires c).In_ok-w).1 in
+    (omega (arith, few, length-take {A = ℕ}), omega (arith, n, room.0, length-take {A = ℕ}), omega (arith, n, room.1, length-take {A = ℕ}))
 
 pub returns : goal.returns
 returns c =

@@ -15,7 +15,7 @@ loop-s-init c = (omega arith, refl)
 pub loop-s-preserved : goal.loop-s-preserved
 loop-s-preserved c =
     let h = bits_of c.args.head in
-    let o = occ_in_lem h c.loop-s.s (omega arith) ∙ sym c.occupied.ensures in
+    let o = occ_in_lem h c.loop-s.s (omega arith) ∙ sym (rw c.new.ensures at c.occupied.ensures) in
     let next = count_next (occ_in h) c.loop-s.n c.loop-s.s c.loop-s.invariant.1 in
     elim c.if-occupied.branch [
       | then-occupied w ↦ (omega arith, w.n-is ∙ next 1 (sym (ap bit (o ∙ w.if-occupied.true))))

@@ -6,23 +6,24 @@ use Rattle.leaf.proofs.LeafLaws.{occ_in_lem}
 use Rattle.leaf.proofs.SearchSteps.{lowest_found, lowest_passed, lowest_end}
 use Rattle.leaf.proofs.search.lowest_vacant.Goals as goal
 
-pub loop-s-init : goal.loop-s-init
+pub loop-n-init : goal.loop-n-init
 unfolding lowest_vacant
-loop-s-init c = refl
+loop-n-init c = refl
 
 pub returns-then-not-occupied : goal.returns-then-not-occupied
 returns-then-not-occupied c =
     let h = bits_of c.args.head in
-    sym (lowest_found (λ t. not (occ_in h t)) 14 c.loop-s.s (omega arith)
-    (ap not (occ_in_lem h c.loop-s.s (omega arith) ∙ sym c.occupied.ensures ∙ c.if-not-occupied.true)))
-    ∙ c.loop-s.invariant
+    rw c.new-s.ensures
+    (sym (lowest_found (λ t. not (occ_in h t)) 14 c.loop-n.n (omega arith)
+    (ap not (occ_in_lem h c.loop-n.n (omega arith) ∙ sym (rw c.new-s.ensures at c.occupied.ensures) ∙ c.if-not-occupied.true)))
+    ∙ c.loop-n.invariant)
 
-pub loop-s-preserved : goal.loop-s-preserved
-loop-s-preserved c =
+pub loop-n-preserved : goal.loop-n-preserved
+loop-n-preserved c =
     let h = bits_of c.args.head in
-    sym (lowest_passed (λ t. not (occ_in h t)) 14 c.loop-s.s (omega arith)
-    (ap not (occ_in_lem h c.loop-s.s (omega arith) ∙ sym c.occupied.ensures ∙ c.if-not-occupied.false)))
-    ∙ c.loop-s.invariant
+    sym (lowest_passed (λ t. not (occ_in h t)) 14 c.loop-n.n (omega arith)
+    (ap not (occ_in_lem h c.loop-n.n (omega arith) ∙ sym (rw c.new-s.ensures at c.occupied.ensures) ∙ c.if-not-occupied.false)))
+    ∙ c.loop-n.invariant
 
 pub returns : goal.returns
-returns c = sym (lowest_end (λ t. not (occ_in (bits_of c.args.head) t)) 14 c.loop-s.s (omega arith)) ∙ c.loop-s.invariant
+returns c = sym (lowest_end (λ t. not (occ_in (bits_of c.args.head) t)) 14 c.loop-n.n (omega arith)) ∙ c.loop-n.invariant

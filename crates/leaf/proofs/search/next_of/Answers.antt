@@ -6,9 +6,10 @@ use Rattle.leaf.proofs.search.next_of.Goals as goal
 
 pub returns-then-alt-eq0 : goal.returns-then-alt-eq0
 returns-then-alt-eq0 c =
-    c.word_at.ensures ∙ in_next _ _ c.requires 0 240 (sym c.if-alt-eq0.true ∙ c.alt.ensures) (omega arith)
+    rw (c.word_at.ensures, c.bytes.ensures.0)
+    (in_next _ _ c.head.ensures 0 240 (sym c.if-alt-eq0.true ∙ c.alt.ensures) (omega arith))
 
 pub returns-else-alt-eq0 : goal.returns-else-alt-eq0
 returns-else-alt-eq0 c =
-    c.word_at-else-alt-eq0.ensures
-    ∙ in_next _ _ c.requires 1 248 (omega (arith, c.alt.ensures, alt_lt (bits_of c.args.head))) (omega arith)
+    rw (c.word_at-else-alt-eq0.ensures, c.bytes-else-alt-eq0.ensures.0)
+    (in_next _ _ c.head.ensures 1 248 (omega (arith, c.alt.ensures, alt_lt (bits_of c.head.result))) (omega arith))

@@ -4,20 +4,21 @@ use Rattle.leaf.proofs.TallySteps.{Left, left_whole, left_down, left_next, left_
 use Rattle.leaf.proofs.tally.has_twins.Goals as goal
 
 pub loop-s-init : goal.loop-s-init
-loop-s-init c = left_whole c.args.leaf.now _ c.requires.1
+loop-s-init c = left_whole c.args.leaf.now _ c.requires
 
 pub returns-then-left-eq0 : goal.returns-then-left-eq0
 returns-then-left-eq0 c = left_none _ c.loop-s.s c.loop-s.left c.if-left-eq0.true c.loop-s.invariant
 
 pub is_hit_twin-requires : goal.is_hit_twin-requires
-is_hit_twin-requires c = (omega (arith, c.loop-s-test.true), c.requires.0, (left_down _ _ _ c.loop-s-test.true c.loop-s.invariant).told.0)
+is_hit_twin-requires c =
+    rw c.new.ensures (left_down _ _ _ c.loop-s-test.true c.loop-s.invariant).told.0
 
 pub returns-then-is_hit_twin : goal.returns-then-is_hit_twin
 returns-then-is_hit_twin c =
-    twins_found _ (c.loop-s.s - 1) (omega (arith, c.loop-s-test.true)) (sym c.is_hit_twin.ensures ∙ c.if-is_hit_twin.true)
+    twins_found _ (c.loop-s.s - 1) (omega (arith, c.loop-s-test.true)) (sym (rw c.new.ensures at c.is_hit_twin.ensures) ∙ c.if-is_hit_twin.true)
 
 pub loop-s-preserved : goal.loop-s-preserved
-loop-s-preserved c = left_next _ (c.loop-s.s - 1) c.loop-s.left (left_down _ _ _ c.loop-s-test.true c.loop-s.invariant) (sym c.is_hit_twin.ensures ∙ c.if-is_hit_twin.false)
+loop-s-preserved c = left_next _ (c.loop-s.s - 1) c.loop-s.left (left_down _ _ _ c.loop-s-test.true c.loop-s.invariant) (sym (rw c.new.ensures at c.is_hit_twin.ensures) ∙ c.if-is_hit_twin.false)
 
 pub returns : goal.returns
 returns c =

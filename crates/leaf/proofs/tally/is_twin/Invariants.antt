@@ -6,4 +6,4 @@ use Rattle.leaf.specs.Tally.{shares}
 use Rattle.leaf.proofs.tally.is_twin.Given as goal
 
 abbrev pub invariant-loop-t : goal.invariant-loop-t
-invariant-loop-t l = any_below (shares (leaf_in l.leaf) l.s) l.t ≡ false
+invariant-loop-t l = any_below (shares (leaf_in l.leaf) l.fn.s) l.t ≡ false

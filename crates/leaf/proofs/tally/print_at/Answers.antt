@@ -6,6 +6,7 @@ use Rattle.leaf.proofs.tally.print_at.Goals as goal
 
 pub returns : goal.returns
 returns c =
-    let l = c.args.leaf.now in
-    sym (fingerprint_byte l 0 c.args.s (λ i. search rules) (omega arith) ∙ rw zero-add)
-    ∙ in_fp l (head_at l 0) refl c.args.s
+    let l = c.bytes.result.now in
+    rw (← c.bytes.ensures.0)
+    (sym (fingerprint_byte l 0 c.args.s (λ i. search rules) (omega arith) ∙ rw (zero-add, c.number.ensures.0))
+    ∙ in_fp l (head_at l 0) refl c.args.s)

@@ -24,7 +24,7 @@ returns c =
       | then-up w ↦ search rules
       | else-up w ↦ search rules
     ] in
-    new_leaf_lem l _ _ _ (32 * a.new) _ _ a.up L ss a.entry.key a.entry.value (bits_of c.new_head.result) last.key last.value
+    new_leaf_lem l _ _ _ (32 * c.from-place.result) _ _ a.up L ss a.entry.key a.entry.value (bits_of c.new_head.result) last.key last.value
     c.next_of.result seven (omega (arith, c.key_word.ensures)) (omega (arith, c.sibling_word.ensures))
     c.write_lower.ensures c.append_moved.ensures c.append_pair.ensures c.new_head.ensures key value c.next_of.ensures
-    ∙ ap (λ (p : ℕ). appended l 0 (stores_from p (new_words a.up L ss a.entry.key a.entry.value))) (start_place a.new)
+    ∙ ap (λ (p : ℕ). appended l 0 (stores_from p (new_words a.up L ss a.entry.key a.entry.value))) (rw c.from-place.ensures (start_place a.new))

@@ -6,20 +6,13 @@ pub returns-in_err-w : goal.returns-in_err-w
 returns-in_err-w c = search (rules, del_refused)
 
 pub returns-in_err-s : goal.returns-in_err-s
-returns-in_err-s c = search (rules, del_absent c.in_ok-w.ensures (sym c.slot_in.ensures.0 ∙ c.in_err-s.ensures.ok_part))
+returns-in_err-s c = search (rules, del_absent c.in_ok-w.ensures (sym (rw c.page_in.ensures.leaf at c.find_slot.ensures) ∙ c.in_err-s.ensures.ok_part))
 
 pub write_del-requires : goal.write_del-requires
 write_del-requires c =
     let w = c.in_ok-w.ensures in
-    let near = rw c.in_ok-s.ensures.ok_part at c.slot_in.ensures.1 in (
-      omega (arith, w.before_inside, w.target_inside),
-      omega (arith, w.before_inside, w.target_inside),
-      omega (arith, w.before_near, w.target_near),
-      omega (arith, w.before_near, w.target_near),
-      near,
-      w.room,
-    )
+    (omega (arith, w.before_inside, w.target_inside), omega (arith, w.before_inside, w.target_inside), w.room)
 
 pub returns : goal.returns
 returns c =
-    del_made c.in_ok-w.ensures (sym c.slot_in.ensures.0 ∙ c.in_ok-s.ensures.ok_part) c.three_steps.ensures c.write_del.ensures
+    del_made c.in_ok-w.ensures (sym (rw c.page_in.ensures.leaf at c.find_slot.ensures) ∙ c.in_ok-s.ensures.ok_part) c.three_steps.ensures c.write_del.ensures

@@ -6,14 +6,11 @@ pub returns-in_err-w : goal.returns-in_err-w
 returns-in_err-w c = search (rules, set_refused)
 
 pub returns-in_err-s : goal.returns-in_err-s
-returns-in_err-s c = search (rules, set_absent c.in_ok-w.ensures (sym c.slot_in.ensures.0 ∙ c.in_err-s.ensures.ok_part) c.args.value)
+returns-in_err-s c = search (rules, set_absent c.in_ok-w.ensures (sym (rw c.page_in.ensures.leaf at c.find_slot.ensures) ∙ c.in_err-s.ensures.ok_part) c.args.value)
 
 pub write_set-requires : goal.write_set-requires
-write_set-requires c =
-    let w = c.in_ok-w.ensures in
-    let near = rw c.in_ok-s.ensures.ok_part at c.slot_in.ensures.1 in
-    (omega (arith, w.room), w.target_near, near)
+write_set-requires c = omega (arith, c.in_ok-w.ensures.room)
 
 pub returns : goal.returns
 returns c =
-    set_made c.in_ok-w.ensures (sym c.slot_in.ensures.0 ∙ c.in_ok-s.ensures.ok_part) c.three_steps.ensures c.args.value c.write_set.ensures
+    set_made c.in_ok-w.ensures (sym (rw c.page_in.ensures.leaf at c.find_slot.ensures) ∙ c.in_ok-s.ensures.ok_part) c.three_steps.ensures c.args.value c.write_set.ensures

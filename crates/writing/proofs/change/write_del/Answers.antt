@@ -10,17 +10,18 @@ use Rattle.writing.proofs.change.write_del.Goals as goal
 pub returns-then-is_alone : goal.returns-then-is_alone
 returns-then-is_alone c =
     let r = reads c.args.image.now in
-    c.write_unlink.ensures r c.args.block (sym c.head_in.ensures) (sym c.next_block-next.ensures)
+    c.write_unlink.ensures r c.args.block (sym (c.head-head.ensures ∙ c.page_in.ensures.head))
+    (sym (rw c.page_in-leaf.ensures.leaf at c.next_of.ensures))
     ∙ ap (λ (l : List Step). written l c.args.list.now)
     (alone_unlink r c.args.before c.args.block c.args.s c.entries.result
-    (c.entries.ensures ∙ ap (λ (z : ℕ). count_below (occ_in z) 14) c.head_in-head.ensures)
+    (c.entries.ensures ∙ ap (λ (z : ℕ). count_below (occ_in z) 14) (c.head.ensures ∙ c.page_in-leaf.ensures.head))
     (sym c.is_alone.ensures ∙ c.if-is_alone.true))
 
 pub returns-else-is_alone : goal.returns-else-is_alone
 returns-else-is_alone c =
     let r = reads c.args.image.now in
-    c.write_clear.ensures r (sym c.head_in-head.ensures)
+    c.write_clear.ensures r (sym (c.head-else-is_alone.ensures ∙ c.page_in-leaf.ensures.head))
     ∙ ap (λ (l : List Step). written l c.args.list.now)
     (others_clear r c.args.before c.args.block c.args.s c.entries.result
-    (c.entries.ensures ∙ ap (λ (z : ℕ). count_below (occ_in z) 14) c.head_in-head.ensures)
+    (c.entries.ensures ∙ ap (λ (z : ℕ). count_below (occ_in z) 14) (c.head.ensures ∙ c.page_in-leaf.ensures.head))
     (sym c.is_alone.ensures ∙ c.if-is_alone.false))

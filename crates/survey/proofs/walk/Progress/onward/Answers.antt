@@ -3,8 +3,8 @@ use Rattle.std.proofs.Common.{◌≡◌, rules, ◌+◌}
 use Rattle.std.specs.Prelude.{cond, eqb}
 use Rattle.words.specs.Bools.{bit}
 use Rattle.survey.specs.Walk.{stage_number}
-use Rattle.survey.proofs.walk.Walk.onward.Goals as goal
-use Rattle.survey.proofs.walk.Walk.onward.Goals.{then-next-eq0, else-next-eq0, then-reached, else-reached, then-reached-2, else-reached-2, then-t-eq0, else-t-eq0}
+use Rattle.survey.proofs.walk.Progress.onward.Goals as goal
+use Rattle.survey.proofs.walk.Progress.onward.Goals.{then-next-eq0, else-next-eq0, then-reached, else-reached, then-reached-2, else-reached-2, then-t-eq0, else-t-eq0}
 
 pub returns : goal.returns
 returns c =
