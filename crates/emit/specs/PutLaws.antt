@@ -1,17 +1,16 @@
 -- The plain put, put together from its stretches.
-use Rattle.std.specs.Prelude.{ℕ, ◌+◌, ◌*◌, List, [], ◌∷◌, ◌++◌, ◌≡◌, Option}
+use Rattle.std.specs.Prelude.{ℕ, ◌+◌, ◌*◌, List, [], ◌∷◌, ◌++◌, ◌≡◌}
 use Rattle.std.proofs.Common.{arith, append_assoc, ◌∙◌}
 use Rattle.std.proofs.Math.Path.{refl, sym, ap}
 use Rattle.std.proofs.Math.ListN.{length, length-append}
-use Rattle.leaf.specs.Leaf.{Leaf, occ_in}
-use Rattle.leaf.specs.Search.{lowest_vacant}
+use Rattle.leaf.specs.Leaf.{Leaf}
 use Rattle.steps.specs.declared.Step.{Step}
 use Rattle.steps.specs.declared.Step.TheVariants.{Store as store, WriteBack as write_back, Fence as fence}
 use Rattle.steps.specs.Model.{line}
 use Rattle.steps.specs.Shapes.{one_store}
 use Rattle.lists.proofs.Beside.{copy_length}
 use Rattle.lists.specs.Lists.{word_place, key_place, low_word, high_word, entry_steps, copy_steps, copies_beside, filled_head}
-use Rattle.lists.specs.Lists.{far_put, put_found, plain_put}
+use Rattle.lists.specs.Lists.{far_put}
 use Rattle.emit.specs.Appended.{appended, stretch_more}
 
 -- a line written back, and a fence
@@ -52,9 +51,3 @@ module _ (h : ℕ) (L : Leaf) (b s k v : ℕ) where
             ∙ ap (λ (x : ℕ). appended l0 at ((E ++ C) ++ (S ++ header_steps b x))) eg,
         ap (λ (x : ℕ). 8 + 2 * x) en ∙ sym far_length,
       )
-
--- the slot that was found
-pub put_found_lem : (h : ℕ) (L : Leaf) (b k v : ℕ) (x : Option ℕ) → x ≡ lowest_vacant (occ_in h) 14
-    → put_found x h L b k v ≡ plain_put h L b k v
-unfolding plain_put
-put_found_lem h L b k v x e = ap (λ (y : Option ℕ). put_found y h L b k v) e
