@@ -10,7 +10,7 @@ use Rattle.words.specs.Words.{word_at, byte_of}
 use Rattle.words.specs.WordLaws.{Bytes, byte_word, word_small}
 use Rattle.header.specs.Fields.{field, patched}
 use Rattle.header.proofs.FieldLaws.{field_lt, field_patched, field_patched_above, field_patched_below, field_apart}
-use Rattle.header.specs.Header.{head_at, is_occupied, is_locked, alt_in, fingerprint_in}
+use Rattle.header.specs.Header.{whole, head_at, is_occupied, is_locked, alt_in, fingerprint_in}
 use Rattle.header.specs.Header.{marked, cleared, flipped, xor_of_bytes, fingerprint_of}
 use Rattle.header.proofs.HeaderCode.{field_low, field_high}
 
@@ -107,6 +107,11 @@ module _ (n : ℕ) where
   pub fingerprint_flipped : (t : ℕ) → fingerprint_in (flipped n) t ≡ fingerprint_in n t
   unfolding fingerprint_in flipped
   fingerprint_flipped t = field_patched_above n 15 1 (1 - alt_in n) (16 + 8 * t) 8 one_less (omega arith)
+
+-- ---- the two words of a header
+
+pub whole_low : (l h n : ℕ) → l < 2 ^ 64 → whole l h ≡ n → l ≡ n % 2 ^ 64
+whole_low l h n small e = omega arith
 
 -- ---- a fingerprint is a byte
 

@@ -164,6 +164,11 @@ pub left_next : (L : Leaf) (n h : ℕ) → Left L (suc n) h → twin_at L n ≡ 
 unfolding any_below
 left_next L n h k e = record { told = k.told.1; rest = sym (rw e (or_none (any_below (twin_at L) n))) ∙ k.rest }
 
+-- where a hit is left, so is a slot
+pub left_some : (L : Leaf) (n h : ℕ) → Left L n h → (h ≡ 0 → ⊥) → 0 < n
+left_some L zero h k ne = absurd (ne k.told)
+left_some L (suc n) h k ne = omega arith
+
 -- the last slot and those below it
 pub left_down : (L : Leaf) (s h : ℕ) → 0 < s → Left L s h → Left L (suc (s - 1)) h
 left_down L s h b k = let q : s ≡ suc (s - 1) = omega arith in subst (λ (n : ℕ). Left L n h) q k

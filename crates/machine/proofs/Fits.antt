@@ -1,5 +1,5 @@
 -- What a call knows that has passed the refusals 1 and 7: its steps' stores are inside the image, which has z bytes.
-use Rattle.std.specs.Prelude.{ℕ, ◌*◌, ◌/◌, ◌%◌, ◌<◌, true, false, not, ◌||◌, List, ◌≡◌, length, ltb, eqb}
+use Rattle.std.specs.Prelude.{ℕ, ◌*◌, ◌/◌, ◌%◌, ◌<◌, ◌≤◌, true, false, not, ◌||◌, List, ◌≡◌, length, ltb, eqb}
 use Rattle.std.proofs.Common.{arith, ap, ltb-true, ltb-false, le-ltb, eqb-true, eq-eqb, ne_eqb}
 use Rattle.std.proofs.lemmas.Bool.{eqb-false, not-false}
 use Rattle.words.specs.Bools.{or_false}
@@ -42,6 +42,14 @@ passes z list n P = (
   rw (le-ltb 56 n P.few, le-ltb (length list) (2 * n) P.long)
       (none_make (malformed z list) n (λ i h. ap not (P.formed i h))),
 )
+
+-- the first of some steps that can be taken can be, too
+pub taken_less : (list : List ℕ) (m n : ℕ) → m ≤ n → Taken list n → Taken list m
+taken_less list m n h T = record {
+  few = omega (arith, T.few);
+  long = omega (arith, T.long);
+  lined = λ i p v b e. T.lined i p v (omega arith) e;
+}
 
 -- so each step's store is inside the image, and its line is one of the image
 module _ (z : ℕ) (list : List ℕ) (n : ℕ) (P : Passed z list n) where

@@ -36,6 +36,17 @@ tally_most s n t h l =
       | no k ↦ omega (arith, get_or-eq_default t 0 {n = l} (omega arith))
     ]
 
+-- a table stays as long as it is
+pub counted_length : (x : Step) (t : List ℕ) → length (counted x t) ≡ length t
+counted_length (store p v) t = length-set t (line p) (get_or t (line p) 0 + 1)
+counted_length (write_back k) t = refl
+counted_length fence t = refl
+
+pub marked_length : (x : Step) (t : List ℕ) → length (marked x t) ≡ length t
+marked_length (store p v) t = refl
+marked_length (write_back k) t = length-set t k 1
+marked_length fence t = refl
+
 module _ (s : Steps) (i : ℕ) (t : List ℕ) where
   pub tally_next : (x : Step) → x ≡ s i → Tally s i t → Tally s (i + 1) (counted x t)
   unfolding count_below

@@ -1,5 +1,5 @@
 // A set of block numbers, one bit for each.
-ghost use Rattle.std.specs.Prelude.{◌≡◌, true, false, not, ◌≤◌, ◌<◌};
+ghost use Rattle.std.specs.Prelude.{◌≡◌, true, false, not, ◌≤◌, ◌<◌, length};
 ghost use Rattle.words.specs.Below.{FirstBelow};
 ghost use Rattle.words.specs.Update.{upd};
 ghost use Rattle.leaf.specs.Search.{lowest};
@@ -10,10 +10,20 @@ use header::bits::{get, lowest_zero};
 // Four words of 64 bits, in an array: which of them has a block is then no branch.
 #[derive(Clone, Copy)]
 pub struct Marks {
-    words: [u64; 4],
+    pub words: [u64; 4],
 }
 
 impl Marks {
+    // The set that four words tell.
+    pub fn of(words: &[u64]) -> Marks
+        requires { length words.now ≡ 4 }
+        ensures { blocks_in result ≡ words.now }
+    {
+        Marks {
+            words: [words[0], words[1], words[2], words[3]],
+        }
+    }
+
     // No block.
     #[tactic(auto, using(crate::specs::Marks::in_none))]
     pub fn none() -> Marks
