@@ -208,16 +208,18 @@ fn stamp_of(leaves: u64) -> u8 {
 }
 
 // Notes the smallest key and the number of the leaf that is the i-th of the walk, where the buffers reach so far: who asks for
-// no notes lends empty ones.
+// no notes lends empty ones, and one test then tells that neither does.
 fn note_leaf(leasts: &mut [u64], numbers: &mut [u8], i: usize, at: u64, t: Tally)
     requires { at < 256 }
     ensures { (leasts.new ≡ set leasts.old i (smallest_by t)) × (numbers.new ≡ set numbers.old i at) }
 {
-    if i < leasts.len() {
-        leasts[i] = if t.entries == 0 { 0 } else { t.least };
-    }
-    if i < numbers.len() {
-        numbers[i] = at as u8;
+    if i < leasts.len().max(numbers.len()) {
+        if i < leasts.len() {
+            leasts[i] = if t.entries == 0 { 0 } else { t.least };
+        }
+        if i < numbers.len() {
+            numbers[i] = at as u8;
+        }
     }
 }
 
