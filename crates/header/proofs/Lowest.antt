@@ -61,6 +61,13 @@ ones k w h nz =
     let i = some_one k w h nz in
     record { inside = i; holds = o.at i; before = o.below }
 
+-- so the code's two answers: a bit below 64, or all 64
+pub first_one : (n : ℕ) → count_trailing_zeros 64 n < 64 → IsFirst (is_one n) 64 (count_trailing_zeros 64 n)
+first_one n h = let o = lowest_one 64 n in record { inside = h; holds = o.at h; before = o.below }
+
+pub no_one : (n t : ℕ) → (count_trailing_zeros 64 n < 64 → ⊥) → t < 64 → is_one n t ≡ false
+no_one n t h b = (lowest_one 64 n).below t (omega arith)
+
 pub no_ones : (n t : ℕ) → n ≡ 0 → is_one n t ≡ false
 unfolding field
 no_ones n t e = rw (e, zero-div (2 ^ t)) refl

@@ -23,14 +23,12 @@ pub fn replace(n: u64, p: usize, w: usize, d: u64) -> u64
 }
 
 // The lowest bit of n that is 1.
-#[tactic(auto, using(crate::proofs::Lowest::ones, crate::proofs::Lowest::no_ones))]
+#[tactic(auto, using(crate::proofs::Lowest::first_one, crate::proofs::Lowest::no_one))]
 pub fn lowest_one(n: u64) -> Option<usize>
     ensures { FirstBelow (is_one n) 64 result }
 {
-    if n == 0 {
-        return None;
-    }
-    Some(n.trailing_zeros() as usize)
+    let t = n.trailing_zeros() as usize;
+    if t < 64 { Some(t) } else { None }
 }
 
 // The lowest bit of n that is 0.

@@ -25,13 +25,15 @@ fn list_slots(leaf: &Page, order: &[u8], keys: &mut [u64], values: &mut [u64]) -
     ensures filled { buffers result keys.new values.new
         ≡ fill (length keys.old) (entries_at (leaf_in leaf.now) order.now) (buffers 0 keys.old values.old) }
 {
-    let n = order.len().min(keys.len());
-    for (i, slot) in order[..n].iter().enumerate() {
+    for (i, slot) in order.iter().enumerate() {
+        if i == keys.len() {
+            return i;
+        }
         let s = Slot::new(*slot as usize);
         keys[i] = key_at(leaf, s);
         values[i] = value_at(leaf, s);
     }
-    n
+    order.len()
 }
 
 // The entries of a leaf with keys from `from` on.
